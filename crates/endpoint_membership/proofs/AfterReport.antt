@@ -1,10 +1,10 @@
 -- The memberships of an endpoint after its report are those by the log with the report.
-use Rattle.std.{proofs.{Common.{◌≡◌, ℕ, ◌≤◌, ◌<◌, true, if◌then◌else◌, List, [], ◌∷◌, ◌++◌, filter, Option, Some, None, refl, sym, ap, subst, ◌∙◌}, lemmas.{Cmp.{tied_itself}, Map.Views.{tells_apart}}}, specs.Ordering.{is_eq}}
-use Rattle.amt_values.{specs.{declared.address.Ip.{Ip}, EndpointValue.{EndpointValue}}, proofs.Orders.{endpoint_order-exact, endpoint_order-total}}
+use Rattle.std.{proofs.{Common.{◌≡◌, ℕ, ◌≤◌, ◌<◌, true, if◌then◌else◌, List, [], ◌∷◌, Option, Some, None, refl, sym, ap, subst, ◌∙◌}, lemmas.{Cmp.{tied_itself}, Map.Views.{tells_apart}}}, specs.Ordering.{is_eq}}
+use Rattle.amt_values.{specs.{declared.address.Ip.{Ip}, EndpointValue.{EndpointValue}, Ascending.{IsAscending}}, proofs.Orders.{endpoint_order-exact, endpoint_order-total}}
 use Rattle.source_filter.specs.{Filter.{FilterValue, filter_after_all}, declared.mode.Mode.{Mode, TheVariants.{Include, Exclude}}, declared.record.Record.{Record}}
-use Rattle.endpoint_membership.specs.{declared.{change.Change.{Change, TheVariants.{Reported}}, after_report.RenewedFilter.{RenewedFilter}}, Membership.{Membership, is_fresh}, Stored.{earlier, later, only}}
+use Rattle.endpoint_membership.specs.{declared.{change.Change.{Change, TheVariants.{Reported}}, after_report.RenewedFilter.{RenewedFilter}}, Membership.{Membership, is_fresh, membership_order}, Stored.{only}}
 use Rattle.endpoint_membership.specs.{Log.{is_empty, latest, on_group}, EndpointMemberships.{AreOwn, filter_or_nothing, membership_of_renewed, renewed_filter_after, renewed_filter_after_all, renewed_filter_of}}
-use Rattle.endpoint_membership.{specs.{EndpointGroup.{EndpointGroup, same_endpoint}, Memberships.{membership_of, membership_in, membership_at}, Table.{AreMembershipsAt}}, proofs.{ThreeParts.{is_of, parted}, MembershipAt.{filter_in, membership_at-later, membership_at-report}, AfterEntries.{AreMembershipsAt-report}}}
+use Rattle.endpoint_membership.{specs.{EndpointGroup.{EndpointGroup, same_endpoint}, Memberships.{membership_of, membership_in, membership_at}, Table.{AreMembershipsAt}}, proofs.{MembershipAt.{filter_in, membership_at-later, membership_at-other, membership_at-report}, MembershipIn.{cond_by}}}
 
 abbrev endpoint_group : EndpointValue → Ip → EndpointGroup
 endpoint_group endpoint group = record { endpoint = endpoint; group = group }
@@ -38,36 +38,41 @@ row_by endpoint group moment (first ∷ later) filter renewed found is =
     ap (membership_of_renewed endpoint group) (renewed_filter_after_all-is moment first later (renewed_filter_of found))
     ∙ ap (λ (before : FilterValue). membership_of (endpoint_group endpoint group) (filter_after_all before (first ∷ later)) moment) (filter_or_nothing-in found)
 
--- the endpoint's filters make the memberships by the log with the report
-pub own_membership : (lifetime moment at : ℕ) (endpoint : EndpointValue) (records : List Record) (past : List Change) (rows : List Membership) (group : Ip) → 0 < lifetime
-    → moment ≤ latest (Reported endpoint records at ∷ past) → AreMembershipsAt lifetime moment past rows
-    → membership_of_renewed endpoint group (renewed_filter_after_all (latest (Reported endpoint records at ∷ past)) (on_group group records)
-    (renewed_filter_of (only (is_fresh lifetime (latest (Reported endpoint records at ∷ past))) (membership_in rows (endpoint_group endpoint group)))))
-    ≡ membership_at lifetime (latest (Reported endpoint records at ∷ past)) (Reported endpoint records at ∷ past) (endpoint_group endpoint group)
-own_membership lifetime moment at endpoint records past rows group some onward are =
-    let now = latest (Reported endpoint records at ∷ past) in
-    let here = endpoint_group endpoint group in
-    let before = membership_at lifetime now past here in
-    let found = ap (only (is_fresh lifetime now)) (are.each here) ∙ sym (membership_at-later lifetime moment now past here onward) in
-    ap (λ (one : Option Membership). membership_of_renewed endpoint group (renewed_filter_after_all now (on_group group records) (renewed_filter_of one))) found
-    ∙ row_by endpoint group now (on_group group records) _ _ before refl
-    ∙ sym (membership_at-report lifetime at endpoint records past here some (ap is_eq (tied_itself endpoint_order-total endpoint)))
+-- the membership of a pair after a report of the endpoint: one of its own, or an old one of another endpoint where that is fresh
+abbrev pub after_at : ℕ → ℕ → EndpointValue → List Membership → List Membership → EndpointGroup → Option Membership
+after_at lifetime moment endpoint rows own at = if same_endpoint at.endpoint endpoint then membership_in own at else only (is_fresh lifetime moment) (membership_in rows at)
 
--- the memberships of the endpoint are those of its pairs
-pub own_at : (lifetime moment at : ℕ) (endpoint : EndpointValue) (records : List Record) (past : List Change) (rows own : List Membership) → 0 < lifetime
-    → moment ≤ latest (Reported endpoint records at ∷ past) → AreMembershipsAt lifetime moment past rows → AreOwn lifetime (latest (Reported endpoint records at ∷ past)) endpoint records rows own
-    → (here : EndpointGroup) → same_endpoint here.endpoint endpoint ≡ true
-    → membership_in own here ≡ membership_at lifetime (latest (Reported endpoint records at ∷ past)) (Reported endpoint records at ∷ past) here
-own_at lifetime moment at endpoint records past rows own some onward are owned here same =
-    let exact = ap (λ (one : EndpointValue). endpoint_group one here.group) (tells_apart endpoint_order-exact here.endpoint endpoint same) in
-    ap (membership_in own) exact ∙ owned.each here.group ∙ own_membership lifetime moment at endpoint records past rows here.group some onward are
-    ∙ ap (membership_at lifetime (latest (Reported endpoint records at ∷ past)) (Reported endpoint records at ∷ past)) (sym exact)
+-- the memberships after a report of the endpoint, from those before and its own ones
+pub record AreAfterReport (lifetime moment : ℕ) (endpoint : EndpointValue) (rows own after : List Membership) : Type 0 where
+  pub ascend : IsAscending membership_order after
+  pub each : (at : EndpointGroup) → membership_in after at ≡ after_at lifetime moment endpoint rows own at
 
--- the memberships with those of the endpoint replaced stand for the log with the report
-pub AreMembershipsAt-reported : (lifetime moment at : ℕ) (endpoint : EndpointValue) (records : List Record) (past : List Change) (rows own : List Membership) → 0 < lifetime
-    → moment ≤ latest (Reported endpoint records at ∷ past) → AreMembershipsAt lifetime moment past rows → AreOwn lifetime (latest (Reported endpoint records at ∷ past)) endpoint records rows own
-    → AreMembershipsAt lifetime (latest (Reported endpoint records at ∷ past)) (Reported endpoint records at ∷ past)
-    (filter (is_fresh lifetime (latest (Reported endpoint records at ∷ past))) (earlier endpoint rows ++ (own ++ later endpoint rows)))
-AreMembershipsAt-reported lifetime moment at endpoint records past rows own some onward are owned =
-    AreMembershipsAt-report lifetime moment at endpoint records past rows (earlier endpoint rows) (filter (is_of endpoint) rows) (later endpoint rows) own onward are
-    (parted endpoint rows are.ascend) owned.ascends owned.of (own_at lifetime moment at endpoint records past rows own some onward are owned)
+module _ (lifetime moment at : ℕ) (endpoint : EndpointValue) (records : List Record) (past : List Change) (rows own : List Membership) (some : 0 < lifetime)
+    (onward : moment ≤ latest (Reported endpoint records at ∷ past)) (are : AreMembershipsAt lifetime moment past rows) (owned : AreOwn lifetime (latest (Reported endpoint records at ∷ past)) endpoint records rows own) where
+  abbrev log : List Change
+  log = Reported endpoint records at ∷ past
+
+  -- the endpoint's filters make the memberships by the log with the report
+  own_membership : (group : Ip) → membership_in own (endpoint_group endpoint group) ≡ membership_at lifetime (latest log) log (endpoint_group endpoint group)
+  own_membership group =
+      let here = endpoint_group endpoint group in
+      let found = ap (only (is_fresh lifetime (latest log))) (are.each here) ∙ sym (membership_at-later lifetime moment (latest log) past here onward) in
+      owned.each group
+      ∙ ap (λ (one : Option Membership). membership_of_renewed endpoint group (renewed_filter_after_all (latest log) (on_group group records) (renewed_filter_of one))) found
+      ∙ row_by endpoint group (latest log) (on_group group records) _ _ (membership_at lifetime (latest log) past here) refl
+      ∙ sym (membership_at-report lifetime at endpoint records past here some (ap is_eq (tied_itself endpoint_order-total endpoint)))
+
+  reported_at : (here : EndpointGroup) → after_at lifetime (latest log) endpoint rows own here ≡ membership_at lifetime (latest log) log here
+  reported_at here =
+      cond_by (same_endpoint here.endpoint endpoint) (membership_in own here) (only (is_fresh lifetime (latest log)) (membership_in rows here)) (membership_at lifetime (latest log) log here)
+      (λ same. let exact = ap (λ (one : EndpointValue). endpoint_group one here.group) (tells_apart endpoint_order-exact here.endpoint endpoint same) in
+      ap (membership_in own) exact ∙ own_membership here.group ∙ ap (membership_at lifetime (latest log) log) (sym exact))
+      (λ apart. ap (only (is_fresh lifetime (latest log))) (are.each here) ∙ sym (membership_at-later lifetime moment (latest log) past here onward)
+      ∙ sym (membership_at-other lifetime (latest log) (Reported endpoint records at) past here (rw apart refl)))
+
+  -- they are those by the log with the report
+  pub AreMembershipsAt-reported : (after : List Membership) → AreAfterReport lifetime (latest log) endpoint rows own after → AreMembershipsAt lifetime (latest log) log after
+  AreMembershipsAt-reported after put = record { ascend = put.ascend; each = λ here. put.each here ∙ reported_at here }
+
+  pub AreAfterReport-log : (after : List Membership) → AreMembershipsAt lifetime (latest log) log after → AreAfterReport lifetime (latest log) endpoint rows own after
+  AreAfterReport-log after stand = record { ascend = stand.ascend; each = λ here. stand.each here ∙ sym (reported_at here) }

@@ -4,7 +4,7 @@ use Rattle.amt_values.specs.{declared.address.Ip.{Ip}, EndpointValue.{EndpointVa
 use Rattle.source_filter.specs.{declared.record.Record.{Record}, Filter.{filter_after_all}}
 use Rattle.endpoint_membership.specs.{declared.{change.Change.{Change, TheVariants.{Clear, Mark}}, limits.Limits.{Limits}}, Membership.{Membership, is_fresh, endpoint_group_of}, Admission.{HasNoMembership}, Stored.{is_of_another, only}, Limits.{IsWithin}, Log.{brought, concerns, is_empty, latest, records_at}}
 use Rattle.endpoint_membership.specs.{EndpointGroup.{EndpointGroup, same_endpoint, same_group}, Memberships.{is_live, membership_of, membership_in, rows_of, row_of, membership_at, memberships_at}, Table.{Holds, TableValue, TableSettings, memberships_now}}
-use Rattle.endpoint_membership.proofs.{MembershipsByLog.{AreMembershipsAt-memberships_at, rows_are}, HoldsAfter.{Holds-clear, latest-reverse, no_later, table_of}, EndpointGroupOrder.{same_endpoint_group-is}, MembershipAt.{filter_in, membership_at-clear, membership_at-entry, membership_at-later, membership_at-other}, AfterEntries.{same_back, same_endpoint-exact}, WithinLimits.{IsWithin-filter}}
+use Rattle.endpoint_membership.proofs.{MembershipsByLog.{AreMembershipsAt-memberships_at, rows_are}, HoldsAfter.{Holds-clear, latest-reverse, no_later, table_of}, EndpointGroupOrder.{same_endpoint_group-is}, MembershipAt.{filter_in, membership_at-clear, membership_at-entry, membership_at-later, membership_at-other}, AfterEntries.{same_back, same_endpoint-exact}, CountedLive.{others_left}, WithinLimits.{IsWithin-filter}}
 
 -- by two logs the pair has the same membership from now on
 abbrev pub AreAlike : ℕ → EndpointGroup → List Change → List Change → Type 0
@@ -67,7 +67,7 @@ alike_cleared lifetime endpoint_group endpoint at past none =
       | inr apart ↦ membership_at-other lifetime moment (Clear endpoint at) past endpoint_group (rw apart refl) ∙ sym marked
     ])
 
-reverse-around : (log later : List Change) (entry : Change) → reverse (log ++ entry ∷ later) ≡ reverse later ++ entry ∷ reverse log
+pub reverse-around : (log later : List Change) (entry : Change) → reverse (log ++ entry ∷ later) ≡ reverse later ++ entry ∷ reverse log
 reverse-around log later entry =
     reverse-append log (entry ∷ later)
     ∙ ap (λ (newer : List Change). newer ++ reverse log) (reverse-append (entry ∷ []) later)
@@ -109,14 +109,6 @@ rows-unless_cleared lifetime log later endpoint at moment some none onward =
       each = λ endpoint_group. cleared.each endpoint_group ∙ membership_at-unless_cleared lifetime log later endpoint at moment endpoint_group some
           (λ group. sym (before.each (at_group endpoint group)) ∙ unseen endpoint group (memberships_at lifetime (max at (latest log)) log) none) onward;
     }))
-
--- memberships of other endpoints are all left
-others_left : (endpoint : EndpointValue) (rows : List Membership) → is_live endpoint rows ≡ false → filter (is_of_another endpoint) rows ≡ rows
-others_left endpoint [] none = refl
-others_left endpoint (membership ∷ rest) none = elim (cases_Bool (same_endpoint membership.endpoint endpoint)) [
-  | inl here ↦ let wrong = ap (λ (test : Bool). test || is_live endpoint rest) (sym here) ∙ none in absurd cc
-  | inr apart ↦ rw apart (ap (λ (rows : List Membership). membership ∷ rows) (others_left endpoint rest (ap (λ (test : Bool). test || is_live endpoint rest) (sym apart) ∙ none)))
-]
 
 -- where no time passes, a table from which no membership is taken is as it was
 pub none_cleared : (settings : TableSettings) (table : TableValue) (log : List Change) (endpoint : EndpointValue) (at moment : ℕ) (fresh rows : List Membership) → moment ≡ max table.moment at

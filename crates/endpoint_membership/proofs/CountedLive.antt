@@ -1,13 +1,46 @@
 -- Counting live endpoints without one that is named.
-use Rattle.std.{proofs.{Common.{◌≡◌, ℕ, ◌+◌, ◌-◌, ◌≤◌, Bool, true, false, not, cond, ◌&&◌, ◌||◌, List, [], ◌∷◌, filter, length, if◌then◌else◌, refl, sym, ap, ◌∙◌, arith}, lemmas.Cmp.{tied_itself}}, specs.Ordering.{is_eq}}
+use Rattle.std.{proofs.{Common.{◌≡◌, ℕ, ◌+◌, ◌-◌, ◌≤◌, Bool, true, false, not, cond, ◌&&◌, ◌||◌, List, [], ◌∷◌, filter, length, map, if◌then◌else◌, refl, sym, ap, ◌∙◌, arith}, lemmas.{Bool.{or_parts}, Cmp.{tied_itself}}}, specs.{Ordering.{eq_by_cmp, is_eq, match_ordering}, declared.cmp.Ordering.{Ordering, TheVariants.{Less, Equal, Greater}}}}
 use Rattle.amt_values.{specs.{EndpointValue.{EndpointValue}, Order.{endpoint_order}, Ascending.{ascending, has, placed}}, proofs.{Orders.{endpoint_order-exact, endpoint_order-total}, AscendingLaws.{IsAscending-ascending, IsAscending-placed, has-ascending, has-filter, has-placed, same_ascending}}}
-use Rattle.endpoint_membership.{specs.{EndpointGroup.{same_endpoint}, Limits.{live_count}, Membership.{Membership, is_fresh}, Memberships.{is_live}, Stored.{is_counted, is_of_another}}, proofs.{AfterEntries.{same_back, same_endpoint-exact}, LimitByOwn.{endpoints_of, length-placed_new}}}
+use Rattle.endpoint_membership.{specs.{EndpointGroup.{same_endpoint}, Limits.{live_count}, Membership.{Membership, is_fresh}, Memberships.{is_live}, Stored.{is_counted, is_of_another}}, proofs.{AfterEntries.{same_endpoint-exact}, CountedParts.{is_live-has}}}
 
-is_one_of : (rows : List Membership) (endpoint : EndpointValue) → has endpoint_order (endpoints_of rows) endpoint ≡ is_live endpoint rows
-is_one_of [] endpoint = refl
-is_one_of (membership ∷ rest) endpoint =
-    ap (λ (test : Bool). test || has endpoint_order (endpoints_of rest) endpoint) (same_back endpoint membership.endpoint)
-    ∙ ap (λ (test : Bool). same_endpoint membership.endpoint endpoint || test) (is_one_of rest endpoint)
+abbrev pub endpoints_of : List Membership → List EndpointValue
+endpoints_of rows = map (λ (membership : Membership). membership.endpoint) rows
+
+longer_by : (order : Ordering) (one next : EndpointValue) (others : List EndpointValue) → endpoint_order one next ≡ order → eq_by_cmp endpoint_order one next ≡ false
+    → length (placed endpoint_order one others) ≡ 1 + length others
+    → length (match_ordering order (one ∷ next ∷ others) (next ∷ others) (next ∷ placed endpoint_order one others)) ≡ 1 + length (next ∷ others)
+longer_by Less one next others is apart more = omega arith
+longer_by Equal one next others is apart more = let same = ap is_eq is in absurd cc
+longer_by Greater one next others is apart more = omega (arith, more)
+
+length-placed_new : (one : EndpointValue) (others : List EndpointValue) → has endpoint_order others one ≡ false → length (placed endpoint_order one others) ≡ 1 + length others
+length-placed_new one [] none = refl
+length-placed_new one (next ∷ others) none =
+    let both = or_parts (eq_by_cmp endpoint_order one next) (has endpoint_order others one) none in
+    longer_by (endpoint_order one next) one next others refl both.0 (length-placed_new one others both.1)
+
+pub known : (same listed : Bool) → (same ≡ true → listed ≡ true) → (same || listed) ≡ listed
+known true listed given = sym (given refl)
+known false listed given = refl
+
+-- how many different endpoints there are with one more
+pub count-more : (seen : Bool) (all some : List EndpointValue) (one : EndpointValue) → has endpoint_order some one ≡ seen
+    → ((each : EndpointValue) → has endpoint_order all each ≡ (same_endpoint each one || has endpoint_order some each))
+    → length (ascending endpoint_order all) ≡ length (ascending endpoint_order some) + (if seen then 0 else 1)
+count-more true all some one seen members =
+    let same = ap (λ (each : List EndpointValue). length each) (same_ascending endpoint_order-total endpoint_order-exact (ascending endpoint_order all) (ascending endpoint_order some)
+    (IsAscending-ascending endpoint_order-total all) (IsAscending-ascending endpoint_order-total some)
+    (λ each. has-ascending endpoint_order-total all each ∙ members each
+    ∙ known (same_endpoint each one) (has endpoint_order some each) (λ here. ap (has endpoint_order some) (same_endpoint-exact each one here) ∙ seen) ∙ sym (has-ascending endpoint_order-total some each))) in
+    omega arith
+count-more false all some one seen members =
+    let others = ascending endpoint_order some in
+    let same = ap (λ (each : List EndpointValue). length each) (same_ascending endpoint_order-total endpoint_order-exact (ascending endpoint_order all) (placed endpoint_order one others)
+    (IsAscending-ascending endpoint_order-total all) (IsAscending-placed endpoint_order-total one others (IsAscending-ascending endpoint_order-total some))
+    (λ each. has-ascending endpoint_order-total all each ∙ members each
+    ∙ sym (has-placed endpoint_order-total one others each ∙ ap (λ (listed : Bool). same_endpoint each one || listed) (has-ascending endpoint_order-total some each)))) in
+    let longer = length-placed_new one others (has-ascending endpoint_order-total some one ∙ seen) in
+    omega arith
 
 endpoints_by : (keeps : Bool) (membership : Membership) (rest : List Membership) (others : List EndpointValue) → endpoints_of rest ≡ others
     → endpoints_of (cond keeps (membership ∷ rest) rest) ≡ cond keeps (membership.endpoint ∷ others) others
@@ -30,45 +63,30 @@ put_back true listed is = is refl
 put_back false true is = refl
 put_back false false is = refl
 
-all_left : (same listed : Bool) → (same ≡ true → listed ≡ false) → listed ≡ (listed && not same)
-all_left true listed is = rw (is refl) refl
-all_left false true is = refl
-all_left false false is = refl
-
 left_out : (same listed : Bool) → same ≡ true → (listed && not same) ≡ false
 left_out true true is = refl
 left_out true false is = refl
 left_out false listed is = cc
 
-besides_by : (live : Bool) (endpoint : EndpointValue) (rows : List Membership) → has endpoint_order (endpoints_of rows) endpoint ≡ live
-    → live_count rows ≡ live_count (filter (is_of_another endpoint) rows) + (if live then 1 else 0)
+-- where none is the endpoint's, those of other endpoints are all
+pub others_left : (endpoint : EndpointValue) (rows : List Membership) → is_live endpoint rows ≡ false → filter (is_of_another endpoint) rows ≡ rows
+others_left endpoint [] none = refl
+others_left endpoint (membership ∷ rest) none =
+    let both = or_parts (same_endpoint membership.endpoint endpoint) (is_live endpoint rest) none in
+    rw both.0 (ap (λ (rows : List Membership). membership ∷ rows) (others_left endpoint rest both.1))
+
+besides_by : (live : Bool) (endpoint : EndpointValue) (rows : List Membership) → is_live endpoint rows ≡ live → live_count rows ≡ live_count (filter (is_of_another endpoint) rows) + (if live then 1 else 0)
 besides_by true endpoint rows is =
     let all = endpoints_of rows in
-    let others = endpoints_of (filter (is_of_another endpoint) rows) in
-    let itself = ap is_eq (tied_itself endpoint_order-total endpoint) in
-    let same = same_ascending endpoint_order-total endpoint_order-exact (ascending endpoint_order all) (placed endpoint_order endpoint (ascending endpoint_order others))
-    (IsAscending-ascending endpoint_order-total all) (IsAscending-placed endpoint_order-total endpoint (ascending endpoint_order others) (IsAscending-ascending endpoint_order-total others))
-    (λ one. has-ascending endpoint_order-total all one
-    ∙ put_back (same_endpoint one endpoint) (has endpoint_order all one) (λ here. ap (has endpoint_order all) (same_endpoint-exact one endpoint here) ∙ is)
-    ∙ sym (has-placed endpoint_order-total endpoint (ascending endpoint_order others) one
-    ∙ ap (λ (test : Bool). same_endpoint one endpoint || test) (has-ascending endpoint_order-total others one ∙ has-others endpoint rows one))) in
-    let whole = ap (λ (tunnels : List EndpointValue). length tunnels) same in
-    let longer = length-placed_new endpoint (ascending endpoint_order others)
-    (has-ascending endpoint_order-total others endpoint ∙ has-others endpoint rows endpoint ∙ left_out (same_endpoint endpoint endpoint) (has endpoint_order all endpoint) itself) in
-    omega (arith, whole, longer)
-besides_by false endpoint rows is =
-    let all = endpoints_of rows in
-    let others = endpoints_of (filter (is_of_another endpoint) rows) in
-    let same = same_ascending endpoint_order-total endpoint_order-exact (ascending endpoint_order all) (ascending endpoint_order others) (IsAscending-ascending endpoint_order-total all) (IsAscending-ascending endpoint_order-total others)
-    (λ one. has-ascending endpoint_order-total all one
-    ∙ all_left (same_endpoint one endpoint) (has endpoint_order all one) (λ here. ap (has endpoint_order all) (same_endpoint-exact one endpoint here) ∙ is)
-    ∙ sym (has-ascending endpoint_order-total others one ∙ has-others endpoint rows one)) in
-    let whole = ap (λ (tunnels : List EndpointValue). length tunnels) same in
-    omega (arith, whole)
+    count-more false all (endpoints_of (filter (is_of_another endpoint) rows)) endpoint
+    (has-others endpoint rows endpoint ∙ left_out (same_endpoint endpoint endpoint) (has endpoint_order all endpoint) (ap is_eq (tied_itself endpoint_order-total endpoint)))
+    (λ one. put_back (same_endpoint one endpoint) (has endpoint_order all one) (λ here. ap (has endpoint_order all) (same_endpoint-exact one endpoint here) ∙ sym (is_live-has endpoint rows) ∙ is)
+    ∙ ap (λ (listed : Bool). same_endpoint one endpoint || listed) (sym (has-others endpoint rows one)))
+besides_by false endpoint rows is = let same = ap live_count (others_left endpoint rows is) in omega arith
 
 -- one live endpoint less where the named one is live
-live_count-besides : (endpoint : EndpointValue) (rows : List Membership) → live_count rows ≡ live_count (filter (is_of_another endpoint) rows) + (if is_live endpoint rows then 1 else 0)
-live_count-besides endpoint rows = besides_by (is_live endpoint rows) endpoint rows (is_one_of rows endpoint)
+pub live_count-besides : (endpoint : EndpointValue) (rows : List Membership) → live_count rows ≡ live_count (filter (is_of_another endpoint) rows) + (if is_live endpoint rows then 1 else 0)
+live_count-besides endpoint rows = besides_by (is_live endpoint rows) endpoint rows refl
 
 less_by : (live : Bool) (all others step : ℕ) → all ≡ others + (if live then 1 else 0) → step ≡ (if not live then 0 else 1) → (step ≤ all) × (all - step ≡ others)
 less_by true all others step is less = (omega arith, omega arith)
@@ -88,7 +106,7 @@ both_by true false test membership rest kept passes is = is
 both_by false true test membership rest kept passes is = rw passes is
 both_by false false test membership rest kept passes is = is
 
-counted_are : (lifetime moment : ℕ) (besides : EndpointValue) (rows : List Membership) → filter (is_counted lifetime moment besides) rows ≡ filter (is_of_another besides) (filter (is_fresh lifetime moment) rows)
+pub counted_are : (lifetime moment : ℕ) (besides : EndpointValue) (rows : List Membership) → filter (is_counted lifetime moment besides) rows ≡ filter (is_of_another besides) (filter (is_fresh lifetime moment) rows)
 counted_are lifetime moment besides [] = refl
 counted_are lifetime moment besides (membership ∷ rest) =
     both_by (is_of_another besides membership) (is_fresh lifetime moment membership) (is_of_another besides) membership (filter (is_counted lifetime moment besides) rest) (filter (is_fresh lifetime moment) rest) refl

@@ -43,7 +43,8 @@ is_live-count endpoint (membership ∷ rest) =
     live_by (same_endpoint membership.endpoint endpoint) (is_live endpoint rest) (group_count endpoint rest) (group_count endpoint (membership ∷ rest))
     (group_count-cons endpoint membership rest) (is_live-count endpoint rest)
 
-is_live-has : (endpoint : EndpointValue) (rows : List Membership) → is_live endpoint rows ≡ has endpoint_order (map (λ membership. membership.endpoint) rows) endpoint
+-- and where its endpoint is among those of the memberships
+pub is_live-has : (endpoint : EndpointValue) (rows : List Membership) → is_live endpoint rows ≡ has endpoint_order (map (λ membership. membership.endpoint) rows) endpoint
 is_live-has endpoint [] = refl
 is_live-has endpoint (membership ∷ rest) =
     ap (λ (here : Bool). here || is_live endpoint rest) (same_back membership.endpoint endpoint)

@@ -1,7 +1,7 @@
 -- Records that others leave without effect may be left out.
 use Rattle.std.{proofs.{Common.{◌≡◌, ℕ, Bool, true, false, cond, not, ◌&&◌, ◌||◌, List, [], ◌∷◌, ◌++◌, filter, Option, Some, None, refl, sym, ap, subst, ◌∙◌, append-nil}, lemmas.Map.Views.{tells_apart}}, specs.BTreeMap.{BTreeMap, get}}
 use Rattle.amt_values.{specs.{declared.address.Ip.{Ip}, Order.{ip_order}, Ascending.{IsAscending, ascending, difference, has, union}}, proofs.{Orders.{ip_order-exact, ip_order-total}, AscendingLaws.{IsAscending-ascending, IsAscending-filter, ascending-fixed}}}
-use Rattle.source_filter.specs.{Filter.{FilterValue, filter_after, sources_after}, Record.{is_full}, declared.mode.Mode.{Mode, TheVariants.{Include, Exclude}}, declared.record.{Record.{Record}, RecordKind.{RecordKind, TheVariants.{IsIn, IsEx, ToIn, ToEx, Allow, Block}}}}
+use Rattle.source_filter.specs.{Filter.{FilterValue, filter_after, sources_after}, Record.{is_full}, declared.mode.Mode.{Mode, TheVariants.{Include, Exclude}}, declared.record.{Record.{Record}, RecordKind.{RecordKind, TheVariants.{Allow, Block}}}}
 use Rattle.endpoint_membership.{specs.{Effective.{AreEnough, AreKnown, IsInOrder, Settle, is_idle, only_renews, renewed_at}, EndpointGroup.{same_group}, EndpointMemberships.{filter_or_nothing, renewed_filter_after, renewed_filter_after_all}, Log.{is_empty, on_group}, declared.after_report.RenewedFilter.{RenewedFilter}}, proofs.FilterMap.{same_group-back}}
 
 abbrev record_of : RecordKind → Ip → List Ip → Record
@@ -11,12 +11,9 @@ abbrev filter_of : Mode → List Ip → FilterValue
 filter_of mode sources = record { mode = mode; sources = sources }
 
 full_filter : (kind : RecordKind) (group : Ip) (sources : List Ip) (one other : FilterValue) → is_full kind ≡ true → filter_after one (record_of kind group sources) ≡ filter_after other (record_of kind group sources)
-full_filter IsIn group sources one other full = refl
-full_filter IsEx group sources one other full = refl
-full_filter ToIn group sources one other full = refl
-full_filter ToEx group sources one other full = refl
 full_filter Allow group sources one other full = cc full
 full_filter Block group sources one other full = cc full
+full_filter kind group sources one other full = refl
 
 difference_none : (sources : List Ip) → difference ip_order sources [] ≡ sources
 difference_none [] = refl
@@ -27,24 +24,18 @@ union_none sources ascends = ap (ascending ip_order) (append-nil sources) ∙ as
 
 -- a change of no source
 same_filter : (kind : RecordKind) (mode : Mode) (group : Ip) (before : List Ip) → is_full kind ≡ false → IsAscending ip_order before → filter_after (filter_of mode before) (record_of kind group []) ≡ filter_of mode before
-same_filter IsIn mode group before partial ascends = cc partial
-same_filter IsEx mode group before partial ascends = cc partial
-same_filter ToIn mode group before partial ascends = cc partial
-same_filter ToEx mode group before partial ascends = cc partial
 same_filter Allow Include group before partial ascends = ap (filter_of Include) (union_none before ascends)
 same_filter Allow Exclude group before partial ascends = ap (filter_of Exclude) (difference_none before)
 same_filter Block Include group before partial ascends = ap (filter_of Include) (difference_none before)
 same_filter Block Exclude group before partial ascends = ap (filter_of Exclude) (union_none before ascends)
+same_filter kind mode group before partial ascends = cc partial
 
 after_ascends : (kind : RecordKind) (mode : Mode) (before listed : List Ip) → IsAscending ip_order before → IsAscending ip_order (sources_after kind mode before listed)
-after_ascends IsIn mode before listed ascends = IsAscending-ascending ip_order-total listed
-after_ascends IsEx mode before listed ascends = IsAscending-ascending ip_order-total listed
-after_ascends ToIn mode before listed ascends = IsAscending-ascending ip_order-total listed
-after_ascends ToEx mode before listed ascends = IsAscending-ascending ip_order-total listed
 after_ascends Allow Include before listed ascends = IsAscending-ascending ip_order-total (before ++ listed)
 after_ascends Allow Exclude before listed ascends = IsAscending-filter ip_order (λ source. not (has ip_order listed source)) before ascends
 after_ascends Block Include before listed ascends = IsAscending-filter ip_order (λ source. not (has ip_order listed source)) before ascends
 after_ascends Block Exclude before listed ascends = IsAscending-ascending ip_order-total (before ++ listed)
+after_ascends kind mode before listed ascends = IsAscending-ascending ip_order-total listed
 
 abbrev renewed_with : ℕ → FilterValue → Option RenewedFilter
 renewed_with moment filter = Some (record { filter = filter; renewed = moment })
@@ -86,14 +77,14 @@ pub in_order_set : (here : Bool) (made : RenewedFilter) (old : Option RenewedFil
 in_order_set true made old ascends order = ascends
 in_order_set false made old ascends order = order
 
-first_or_not : (here : Bool) (moment : ℕ) (group : Ip) (group_record : Record) (later : List Record) (before : Option RenewedFilter) → here ≡ same_group group group_record.group
-    → renewed_filter_after_all moment (on_group group (group_record ∷ later)) before ≡ renewed_filter_after_all moment (on_group group later) (after_one here moment group_record before)
-first_or_not true moment group group_record later before is = rw (sym is) refl
-first_or_not false moment group group_record later before is = rw (sym is) refl
+first_by : (here : Bool) (moment : ℕ) (group_record : Record) (later : List Record) (before : Option RenewedFilter)
+    → renewed_filter_after_all moment (cond here (group_record ∷ later) later) before ≡ renewed_filter_after_all moment later (after_one here moment group_record before)
+first_by true moment group_record later before = refl
+first_by false moment group_record later before = refl
 
 first_is : (moment : ℕ) (group : Ip) (group_record : Record) (later : List Record) (before : Option RenewedFilter)
     → renewed_filter_after_all moment (on_group group (group_record ∷ later)) before ≡ renewed_filter_after_all moment (on_group group later) (after_one (same_group group group_record.group) moment group_record before)
-first_is moment group group_record later before = first_or_not (same_group group group_record.group) moment group group_record later before refl
+first_is moment group group_record later before = first_by (same_group group group_record.group) moment group_record (on_group group later) before
 
 idle_by : (whole only : Bool) (moment : ℕ) (group_record : Record) (later : List Record) (before : Option RenewedFilter) → (whole || only) ≡ true → (only ≡ true → only_renews group_record ≡ true) → IsInOrder before
     → Settle whole moment later → renewed_filter_after_all moment later before ≡ renewed_filter_after_all moment later (renewed_filter_after moment group_record before)
@@ -132,39 +123,30 @@ enough_with kept all group_record enough moment group before order =
     ∙ sym (first_is moment group group_record all before)
 
 -- what later records leave of what was before stays so with a record between
-settle_still : (whole here : Bool) (moment : ℕ) (group : Ip) (group_record : Record) (kept : List Record) → here ≡ same_group group group_record.group → Settle whole moment (on_group group kept)
-    → Settle whole moment (on_group group (group_record ∷ kept))
-settle_still true here moment group group_record kept is settle = λ one other.
-    first_or_not here moment group group_record kept one is ∙ settle (after_one here moment group_record one) (after_one here moment group_record other) ∙ sym (first_or_not here moment group group_record kept other is)
-settle_still false true moment group group_record kept is settle = λ before.
-    first_or_not true moment group group_record kept (renewed_at moment before) is ∙ sym (first_or_not true moment group group_record kept before is)
-settle_still false false moment group group_record kept is settle = λ before.
-    first_or_not false moment group group_record kept (renewed_at moment before) is ∙ settle before ∙ sym (first_or_not false moment group group_record kept before is)
+settle_still : (here whole : Bool) (moment : ℕ) (group_record : Record) (later : List Record) → Settle whole moment later → Settle whole moment (cond here (group_record ∷ later) later)
+settle_still true true moment group_record later settle = λ one other. settle (renewed_filter_after moment group_record one) (renewed_filter_after moment group_record other)
+settle_still true false moment group_record later settle = λ before. refl
+settle_still false whole moment group_record later settle = settle
 
 pub known_still : (known : BTreeMap Ip Bool) (kept : List Record) (group_record : Record) → AreKnown known kept → AreKnown known (group_record ∷ kept)
-known_still known kept group_record are moment group whole is = settle_still whole (same_group group group_record.group) moment group group_record kept refl (are moment group whole is)
+known_still known kept group_record are moment group whole is = settle_still (same_group group group_record.group) whole moment group_record (on_group group kept) (are moment group whole is)
 
 -- what a record leaves of what was before
-settle_first : (whole : Bool) (moment : ℕ) (group : Ip) (group_record : Record) (kept : List Record) → true ≡ same_group group group_record.group → whole ≡ is_full group_record.kind
-    → Settle whole moment (on_group group (group_record ∷ kept))
-settle_first true moment group group_record kept here is = λ one other.
-    first_or_not true moment group group_record kept one here ∙ ap (renewed_filter_after_all moment (on_group group kept)) (full_makes moment group_record one other (sym is))
-    ∙ sym (first_or_not true moment group group_record kept other here)
-settle_first false moment group group_record kept here is = λ before.
-    first_or_not true moment group group_record kept (renewed_at moment before) here ∙ sym (first_or_not true moment group group_record kept before here)
+settle_first : (full : Bool) (moment : ℕ) (group_record : Record) (later : List Record) → full ≡ is_full group_record.kind → Settle full moment (group_record ∷ later)
+settle_first true moment group_record later is = λ one other. ap (renewed_filter_after_all moment later) (full_makes moment group_record one other (sym is))
+settle_first false moment group_record later is = λ before. refl
 
-known_by : (here : Bool) (known : BTreeMap Ip Bool) (kept : List Record) (group_record : Record) (moment : ℕ) (group : Ip) (whole full : Bool) → here ≡ same_group group group_record.group → full ≡ is_full group_record.kind
-    → cond here (Some full) (get ip_order known group) ≡ Some whole → AreKnown known kept → Settle whole moment (on_group group (group_record ∷ kept))
-known_by true known kept group_record moment group whole full here is set are = settle_first whole moment group group_record kept here (some_is whole full set ∙ is)
-known_by false known kept group_record moment group whole full here is set are = settle_still whole false moment group group_record kept here (are moment group whole set)
+known_by : (here whole full : Bool) (found : Option Bool) (moment : ℕ) (group_record : Record) (later : List Record) → full ≡ is_full group_record.kind → cond here (Some full) found ≡ Some whole
+    → (found ≡ Some whole → Settle whole moment later) → Settle whole moment (cond here (group_record ∷ later) later)
+known_by true whole full found moment group_record later is set settle = settle_first whole moment group_record later (some_is whole full set ∙ is)
+known_by false whole full found moment group_record later is set settle = settle set
 
 -- the group of the record is known
 pub known_more : (known more : BTreeMap Ip Bool) (kept : List Record) (group_record : Record) (full : Bool) → full ≡ is_full group_record.kind
     → ((other : Ip) → get ip_order more other ≡ cond (same_group group_record.group other) (Some full) (get ip_order known other)) → AreKnown known kept → AreKnown more (group_record ∷ kept)
 known_more known more kept group_record full is set are moment group whole so =
-    let here = same_group group group_record.group in
-    known_by here known kept group_record moment group whole full refl is
-    (ap (λ (test : Bool). cond test (Some full) (get ip_order known group)) (same_group-back group group_record.group) ∙ sym (set group) ∙ so) are
+    known_by (same_group group group_record.group) whole full (get ip_order known group) moment group_record (on_group group kept) is
+    (ap (λ (test : Bool). cond test (Some full) (get ip_order known group)) (same_group-back group group_record.group) ∙ sym (set group) ∙ so) (are moment group whole)
 
 -- the first record, and then the others
 pub one_first : (moment : ℕ) (group : Ip) (group_record : Record) (later : List Record) (before : Option RenewedFilter)

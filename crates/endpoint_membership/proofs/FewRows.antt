@@ -1,67 +1,46 @@
 -- Memberships within the limits are few: a product of the limits bounds them.
-use Rattle.std.proofs.Common.{◌≡◌, ℕ, ◌+◌, ◌*◌, ◌≤◌, Bool, true, false, cond, ◌||◌, List, [], ◌∷◌, length, map, sum_by, refl, ◌∙◌, arith}
-use Rattle.std.{specs.List.{AllByRecursion}, proofs.{Math.Nat.{mul-le-mul, suc-mul}, lemmas.{Cmp.{eq_by_cmp_equiv}, List.{length-map, Sums.{sum_by-cons}}}}}
+use Rattle.std.proofs.Common.{◌≡◌, ℕ, ◌*◌, ◌≤◌, Bool, true, false, cond, not, ◌||◌, List, [], ◌∷◌, filter, length, map, sum_by, refl, ap, ◌∙◌, arith}
+use Rattle.std.{specs.List.{AllByRecursion}, proofs.{Math.Nat.{mul-le-mul, suc-mul}, lemmas.{Bool.{or_right}, Cmp.{eq_by_cmp_equiv}, List.{length-map, Filters.{length-filter_both}, Sums.{length-filter, sum_by-cons}}}}}
 use Rattle.amt_values.{specs.{Order.{endpoint_order}, EndpointValue.{EndpointValue}, Ascending.{has, ascending}}, proofs.{Orders.{endpoint_order-total}, AscendingLaws.{has-ascending}}}
-use Rattle.endpoint_membership.specs.{Limits.{AreFew, IsWithin, group_count, live_count, size}, EndpointGroup.{same_endpoint}, Memberships.{row_of}, Membership.{Membership}, declared.limits.Limits.{Limits}}
+use Rattle.endpoint_membership.{specs.{Limits.{AreFew, IsWithin, group_count, live_count, size}, EndpointGroup.{same_endpoint}, Memberships.{row_of}, Membership.{Membership}, Stored.{is_of_another}, declared.limits.Limits.{Limits}}, proofs.{CountedLive.{endpoints_of}, CountedRows.{group_count-filter}}}
 
-one_if : Bool → ℕ
-one_if test = cond test 1 0
+-- each membership's endpoint is among these
+abbrev AreAmong : List EndpointValue → List Membership → Type 0
+AreAmong endpoints rows = AllByRecursion (λ membership. has endpoint_order endpoints membership.endpoint ≡ true) rows
 
--- how many of the endpoints are the membership's
-hits : List EndpointValue → Membership → ℕ
-hits [] membership = 0
-hits (endpoint ∷ rest) membership = one_if (same_endpoint membership.endpoint endpoint) + hits rest membership
+among_by : (here : Bool) (endpoints : List EndpointValue) (membership : Membership) (others : List Membership) → (here || has endpoint_order endpoints membership.endpoint) ≡ true → AreAmong endpoints others
+    → AreAmong endpoints (cond (not here) (membership ∷ others) others)
+among_by true endpoints membership others listed rest = rest
+among_by false endpoints membership others listed rest = (listed, rest)
 
--- the memberships of the endpoints, counted one endpoint after the other
-total : List EndpointValue → List Membership → ℕ
-total [] rows = 0
-total (endpoint ∷ rest) rows = group_count endpoint rows + total rest rows
+-- those of other endpoints than the first are among the rest
+AreAmong-rest : (endpoint : EndpointValue) (endpoints : List EndpointValue) (rows : List Membership) → AreAmong (endpoint ∷ endpoints) rows → AreAmong endpoints (filter (is_of_another endpoint) rows)
+AreAmong-rest endpoint endpoints [] among = tt
+AreAmong-rest endpoint endpoints (membership ∷ rest) among =
+    among_by (same_endpoint membership.endpoint endpoint) endpoints membership (filter (is_of_another endpoint) rest) among.0 (AreAmong-rest endpoint endpoints rest among.1)
 
-group_count-cons : (endpoint : EndpointValue) (membership : Membership) (rest : List Membership) → group_count endpoint (membership ∷ rest) ≡ one_if (same_endpoint membership.endpoint endpoint) + group_count endpoint rest
-unfolding one_if
-group_count-cons endpoint membership rest = sum_by-cons _ membership rest
+none_among : (rows : List Membership) → AreAmong [] rows → rows ≡ []
+none_among [] among = refl
+none_among (membership ∷ rest) among = let wrong = among.0 in cc
 
-total-cons : (endpoints : List EndpointValue) (membership : Membership) (rest : List Membership) → total endpoints (membership ∷ rest) ≡ hits endpoints membership + total endpoints rest
-unfolding total hits
-total-cons [] membership rest = refl
-total-cons (endpoint ∷ others) membership rest = omega (arith, group_count-cons endpoint membership rest, total-cons others membership rest)
-
-hits_by : (here : Bool) (some : Bool) (more : ℕ) → (some ≡ true → 1 ≤ more) → (here || some) ≡ true → 1 ≤ one_if here + more
-unfolding one_if
-hits_by true some more rest is = omega arith
-hits_by false some more rest is = omega (arith, rest is)
-
-hits-some : (endpoints : List EndpointValue) (membership : Membership) → has endpoint_order endpoints membership.endpoint ≡ true → 1 ≤ hits endpoints membership
-unfolding hits
-hits-some [] membership listed = cc
-hits-some (endpoint ∷ rest) membership listed =
-    hits_by (same_endpoint membership.endpoint endpoint) (has endpoint_order rest membership.endpoint) (hits rest membership) (hits-some rest membership) listed
-
--- no membership is left out where each membership's endpoint is among them
-length-total : (endpoints : List EndpointValue) (rows : List Membership) → AllByRecursion (λ membership. has endpoint_order endpoints membership.endpoint ≡ true) rows → length rows ≤ total endpoints rows
-length-total endpoints [] listed = omega arith
-length-total endpoints (membership ∷ rest) listed =
-    omega (arith, total-cons endpoints membership rest, hits-some endpoints membership listed.0, length-total endpoints rest listed.1)
-
-total-few : (most : ℕ) (endpoints : List EndpointValue) (rows : List Membership) → ((endpoint : EndpointValue) → group_count endpoint rows ≤ most) → total endpoints rows ≤ length endpoints * most
-unfolding total
-total-few most [] rows few = omega arith
-total-few most (endpoint ∷ rest) rows few = omega (arith, few endpoint, total-few most rest rows few, suc-mul (length rest) most)
-
-abbrev endpoints_of : List Membership → List EndpointValue
-endpoints_of rows = map (λ (membership : Membership). membership.endpoint) rows
-
-or_true : (here some : Bool) → some ≡ true → (here || some) ≡ true
-or_true true some is = refl
-or_true false some is = is
+-- each endpoint has at most so many
+length-among : (most : ℕ) (endpoints : List EndpointValue) (rows : List Membership) → AreAmong endpoints rows → ((endpoint : EndpointValue) → group_count endpoint rows ≤ most) → length rows ≤ length endpoints * most
+length-among most [] rows among few = let none = ap (λ (all : List Membership). length all) (none_among rows among) in omega arith
+length-among most (endpoint ∷ rest) rows among few =
+    let others = filter (is_of_another endpoint) rows in
+    let both = length-filter_both (λ (membership : Membership). same_endpoint membership.endpoint endpoint) (is_of_another endpoint) (λ (membership : Membership). refl) rows in
+    let mine = length-filter (λ (membership : Membership). same_endpoint membership.endpoint endpoint) rows in
+    let later = length-among most rest others (AreAmong-rest endpoint rest rows among) (λ one. omega (arith, few one, group_count-filter (is_of_another endpoint) one rows)) in
+    omega (arith, few endpoint, suc-mul (length rest) most)
 
 -- what lists the endpoints of some memberships lists them with one endpoint more
 All-more : (endpoint : EndpointValue) (endpoints : List EndpointValue) (rows : List Membership) → AllByRecursion (λ membership. has endpoint_order endpoints membership.endpoint ≡ true) rows
     → AllByRecursion (λ membership. has endpoint_order (endpoint ∷ endpoints) membership.endpoint ≡ true) rows
 All-more endpoint endpoints [] each = tt
-All-more endpoint endpoints (membership ∷ rest) each = (or_true (same_endpoint membership.endpoint endpoint) _ each.0, All-more endpoint endpoints rest each.1)
+All-more endpoint endpoints (membership ∷ rest) each = (or_right (same_endpoint membership.endpoint endpoint) _ each.0, All-more endpoint endpoints rest each.1)
 
-All-own : (rows : List Membership) → AllByRecursion (λ membership. has endpoint_order (endpoints_of rows) membership.endpoint ≡ true) rows
+-- the endpoint of each membership is among those of all
+pub All-own : (rows : List Membership) → AllByRecursion (λ membership. has endpoint_order (endpoints_of rows) membership.endpoint ≡ true) rows
 All-own [] = tt
 All-own (membership ∷ rest) =
     (rw ((eq_by_cmp_equiv endpoint_order-total).refl membership.endpoint) refl, All-more membership.endpoint (endpoints_of rest) rest (All-own rest))
@@ -74,8 +53,7 @@ All-ascending endpoints (membership ∷ rest) each = (has-ascending endpoint_ord
 rows-few : (limits : Limits) (rows : List Membership) → IsWithin limits rows → length rows ≤ limits.endpoints * limits.groups
 rows-few limits rows within =
     let live = ascending endpoint_order (endpoints_of rows) in
-    let counted = length-total live rows (All-ascending (endpoints_of rows) rows (All-own rows)) in
-    let few = total-few limits.groups live rows within.groups in
+    let few = length-among limits.groups live rows (All-ascending (endpoints_of rows) rows (All-own rows)) within.groups in
     let most : live_count rows * limits.groups ≤ limits.endpoints * limits.groups = mul-le-mul within.endpoints (omega arith) in
     omega arith
 

@@ -1,8 +1,8 @@
 -- Applying records one by one leaves the filter that they make together.
-use Rattle.std.proofs.{Common.{◌≡◌, Bool, true, false, not, ◌&&◌, ◌||◌, if◌then◌else◌, List, [], ◌∷◌, ◌++◌, reverse, filter, refl, sym, ap, ◌∙◌}, lemmas.{Grind.{reverse_onto}, List.{append_assoc}}}
+use Rattle.std.proofs.{Common.{◌≡◌, Bool, true, false, not, ◌&&◌, ◌||◌, if◌then◌else◌, List, [], ◌∷◌, ◌++◌, reverse, filter, refl, sym, ap, ◌∙◌}, lemmas.{Bool.{or_right}, Grind.{reverse_onto}, List.{append_assoc}}}
 use Rattle.amt_values.{specs.{declared.address.Ip.{Ip}, Order.{ip_order}, Ascending.{IsAscending}}, proofs.{Orders.{ip_order-total, ip_order-exact}, AscendingLaws.{IsAscending-ascending, has-append, has-difference, has-filter, has-union, same_ascending}}}
 use Rattle.source_filter.specs.{Filter.{FilterValue, admits, admits_by, filter_after, filter_after_all, mode_after, nothing, sources_after}, Record.{is_full, lists, says, speaks}, declared.mode.Mode.{Mode}}
-use Rattle.source_filter.{specs.{declared.mode.Mode.TheVariants.{Include, Exclude}, declared.record.{Record.{Record}, RecordKind.{RecordKind, TheVariants.{IsIn, IsEx, ToIn, ToEx, Allow, Block}}}}, proofs.FilterAfter.{IsAscending-filter_after, admits-filter_after, lists-ascending}}
+use Rattle.source_filter.{specs.{declared.mode.Mode.TheVariants.{Include, Exclude}, declared.record.{Record.{Record}, RecordKind.{RecordKind, TheVariants.{IsIn, Allow, Block}}}}, proofs.FilterAfter.{IsAscending-filter_after, admits-filter_after, lists-ascending}}
 use Rattle.endpoint_membership.specs.GroupFilter.{records_admit, counted_sources, excludes, is_counted_source, is_excluding, named_sources, filter_of}
 
 -- the filter that records leave, newest first
@@ -15,11 +15,7 @@ mode_by excluding = if excluding then Exclude else Include
 
 mode_after-mode_by : (kind : RecordKind) (before : Bool) → mode_after kind (mode_by before) ≡ mode_by (if is_full kind then is_excluding kind else before)
 mode_after-mode_by IsIn before = refl
-mode_after-mode_by IsEx before = refl
-mode_after-mode_by ToIn before = refl
-mode_after-mode_by ToEx before = refl
-mode_after-mode_by Allow before = refl
-mode_after-mode_by Block before = refl
+mode_after-mode_by kind before = refl
 
 mode-filter_by_records : (records : List Record) → (filter_by_records records).mode ≡ mode_by (excludes records)
 mode-filter_by_records [] = refl
@@ -44,17 +40,13 @@ lists-filter_by_records records source =
     let says = admits-filter_by_records records source in
     counted_by (excludes records) (lists (filter_by_records records).sources source) (records_admit records source) (rw (mode-filter_by_records records) at says)
 
-either_right : (a b : Bool) → a ≡ true → (b || a) ≡ true
-either_right a true given = refl
-either_right a false given = given
-
 turned : (a b : Bool) → (a || b) ≡ true → (b || a) ≡ true
-turned true b given = either_right true b refl
+turned true b given = or_right b true refl
 turned false true given = refl
 turned false false given = given
 
 first_of_both : (a b c : Bool) → (a && b) ≡ true → (c || a) ≡ true
-first_of_both true b c both = either_right true c refl
+first_of_both true b c both = or_right c true refl
 first_of_both false b c both = cc
 
 from_either : (kind : RecordKind) (mode : Mode) (old listed : List Ip) (source : Ip) → lists (sources_after kind mode old listed) source ≡ true
@@ -68,7 +60,7 @@ from_either Block Include old listed source given =
 from_either Block Exclude old listed source given =
     turned (lists old source) (lists listed source) (sym (has-union ip_order-total old listed source) ∙ given)
 from_either full mode old listed source given =
-    turned (lists old source) (lists listed source) (either_right (lists listed source) (lists old source) (sym (lists-ascending listed source) ∙ given))
+    turned (lists old source) (lists listed source) (or_right (lists old source) (lists listed source) (sym (lists-ascending listed source) ∙ given))
 
 either_onward : (a b c : Bool) → (b ≡ true → c ≡ true) → (a || b) ≡ true → (a || c) ≡ true
 either_onward true b c onward given = refl

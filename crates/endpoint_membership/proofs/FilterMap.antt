@@ -4,9 +4,9 @@ use Rattle.std.{proofs.lemmas.Map.Views.{tells_apart}, specs.{BTreeMap.{BTreeMap
 use Rattle.amt_values.{specs.{declared.address.Ip.{Ip}, Order.{ip_order}, EndpointValue.{EndpointValue}, Ascending.{IsAscending}}, proofs.Orders.{ip_order-exact, ip_order-total, endpoint_order-total}}
 use Rattle.source_filter.specs.{Filter.{FilterValue, wants_any}, declared.record.Record.{Record}}
 use Rattle.endpoint_membership.specs.{Membership.{Membership, is_fresh, membership_order, endpoint_group_of}, Stored.{only}, declared.after_report.RenewedFilter.{RenewedFilter}}
-use Rattle.endpoint_membership.specs.{EndpointMemberships.{AreOf, is_own, membership_of_entry, membership_of_renewed, renewed_filter_after, renewed_filter_after_all, renewed_filter_of}, Log.{on_group}}
+use Rattle.endpoint_membership.specs.{EndpointMemberships.{AreOf, membership_of_entry, membership_of_renewed, renewed_filter_after, renewed_filter_after_all, renewed_filter_of}, Log.{on_group}}
 use Rattle.endpoint_membership.specs.{EndpointGroup.{EndpointGroup, endpoint_group_order, same_endpoint, same_group, same_endpoint_group}, Memberships.{membership_in}}
-use Rattle.endpoint_membership.proofs.{MembershipsByLog.{AreAfter-cons_option, IsAscending-cons_option, membership_by, membership_in-cons_option}, MembershipIn.{AreAfter, membership_in-after, membership_in-append, same_endpoint_group-exact}, EndpointGroupOrder.{membership_order-total, same_endpoint_group-is}}
+use Rattle.endpoint_membership.proofs.{MembershipsByLog.{AreAfter-cons_option, IsAscending-cons_option, membership_by, membership_in-cons_option}, MembershipIn.{AreAfter, membership_in-after}}
 
 pub same_group-back : (one other : Ip) → same_group one other ≡ same_group other one
 same_group-back one other = (eq_by_cmp_equiv ip_order-total).symm one other
@@ -17,20 +17,9 @@ endpoint_group endpoint group = record { endpoint = endpoint; group = group }
 abbrev pub made : EndpointValue → Ip → FilterValue → ℕ → Membership
 made endpoint group filter renewed = record { endpoint = endpoint; group = group; filter = filter; renewed = renewed }
 
-same_endpoint-back : (one other : EndpointValue) → same_endpoint one other ≡ same_endpoint other one
-same_endpoint-back one other = (eq_by_cmp_equiv endpoint_order-total).symm one other
-
 or_none : (found : Option Membership) → option_or found None ≡ found
 or_none None = refl
 or_none (Some membership) = refl
-
-only_true : (test : Bool) → test ≡ (test && true)
-only_true true = refl
-only_true false = refl
-
-only_false : (test : Bool) → false ≡ (test && false)
-only_false true = refl
-only_false false = refl
 
 -- one more entry, which gives an item
 pub one_more_given : {A B : Type 0} (give : A → Option B) (done : List A) (entry : A) (item : B) (so_far more : List B) → give entry ≡ Some item → so_far ≡ filter_map give done → more ≡ so_far ++ item ∷ []
@@ -46,70 +35,6 @@ pub one_applied : (group : Ip) (group_record : Record) (moment : ℕ) (before af
     → after ≡ cond key (renewed_filter_after moment group_record before) before → after ≡ renewed_filter_after_all moment (on_group group (group_record ∷ [])) before
 one_applied group group_record moment before after true here is = rw (sym here) is
 one_applied group group_record moment before after false here is = rw (sym here) is
-
-renewed_filter_after_all-append : (moment : ℕ) (done more : List Record) (renewed_filter : Option RenewedFilter) → renewed_filter_after_all moment (done ++ more) renewed_filter ≡ renewed_filter_after_all moment more (renewed_filter_after_all moment done renewed_filter)
-renewed_filter_after_all-append moment [] more renewed_filter = refl
-renewed_filter_after_all-append moment (first ∷ done) more renewed_filter = renewed_filter_after_all-append moment done more (renewed_filter_after moment first renewed_filter)
-
--- one record more
-pub more_applied : (group : Ip) (done : List Record) (group_record : Record) (moment : ℕ) (first before after : Option RenewedFilter) → before ≡ renewed_filter_after_all moment (on_group group done) first
-    → after ≡ renewed_filter_after_all moment (on_group group (group_record ∷ [])) before → after ≡ renewed_filter_after_all moment (on_group group (done ++ group_record ∷ [])) first
-more_applied group done group_record moment first before after so_far is =
-    is ∙ ap (renewed_filter_after_all moment (on_group group (group_record ∷ []))) so_far
-    ∙ sym (ap (λ (records : List Record). renewed_filter_after_all moment records first) (filter-append (λ (one : Record). same_group group one.group) done (group_record ∷ []))
-    ∙ renewed_filter_after_all-append moment (on_group group done) (on_group group (group_record ∷ [])) first)
-
-last_of : (P : Membership → Type 0) (xs : List Membership) (last : Membership) → AllByRecursion P (xs ++ last ∷ []) → P last
-last_of P [] last each = each.0
-last_of P (x ∷ xs) last each = last_of P xs last each.1
-
--- memberships before a later one are not of its pair
-not_earlier : (xs : List Membership) (membership : Membership) (at : EndpointGroup) → IsAscending membership_order (xs ++ membership ∷ []) → at ≡ endpoint_group_of membership → membership_in xs at ≡ None
-not_earlier [] membership at ascends here = refl
-not_earlier (first ∷ xs) membership at ascends here =
-    let before = last_of (λ (later : Membership). membership_order first later ≡ Less) xs membership (sorted_head membership_order first (xs ++ membership ∷ []) ascends) in
-    let apart : same_endpoint_group at (endpoint_group_of first) ≡ false = ap (λ (one : EndpointGroup). same_endpoint_group one (endpoint_group_of first)) here
-    ∙ ap is_eq (membership_order-total.antisymm membership first ∙ ap ordering_reverse before) in
-    rw apart (not_earlier xs membership at (sorted_tail membership_order first (xs ++ membership ∷ []) ascends) here)
-
-found_by : (here fresh : Bool) (membership : Membership) (before : Option Membership) (test : Membership → Bool) → test membership ≡ fresh → (here ≡ true → before ≡ None)
-    → renewed_filter_of (only test (option_or before (cond here (Some membership) None))) ≡ cond (here && fresh) (renewed_filter_of (Some membership)) (renewed_filter_of (only test before))
-found_by true true membership before test is none = rw (none refl, is) refl
-found_by true false membership before test is none = rw (none refl, is) refl
-found_by false fresh membership before test is none = ap (λ (found : Option Membership). renewed_filter_of (only test found)) (or_none before)
-
-reordered : (e g f : Bool) → ((e && g) && f) ≡ ((e && f) && g)
-reordered true true f = only_true f
-reordered true false f = only_false f
-reordered false g f = refl
-
--- what is wanted with one membership more
-pub one_more_filter : (lifetime moment : ℕ) (endpoint : EndpointValue) (xs : List Membership) (membership : Membership) (group : Ip) → IsAscending membership_order (xs ++ membership ∷ [])
-    → renewed_filter_of (only (is_fresh lifetime moment) (membership_in (xs ++ membership ∷ []) (endpoint_group endpoint group)))
-    ≡ cond (is_own lifetime moment endpoint membership && same_group membership.group group) (renewed_filter_of (Some membership)) (renewed_filter_of (only (is_fresh lifetime moment) (membership_in xs (endpoint_group endpoint group))))
-one_more_filter lifetime moment endpoint xs membership group ascends =
-    let at = endpoint_group endpoint group in
-    let fresh = is_fresh lifetime moment membership in
-    let before = renewed_filter_of (only (is_fresh lifetime moment) (membership_in xs at)) in
-    ap (λ (found : Option Membership). renewed_filter_of (only (is_fresh lifetime moment) found)) (membership_in-append xs (membership ∷ []) at)
-    ∙ found_by (same_endpoint_group at (endpoint_group_of membership)) fresh membership (membership_in xs at) (is_fresh lifetime moment) refl
-    (λ same. not_earlier xs membership at ascends (same_endpoint_group-exact at (endpoint_group_of membership) same))
-    ∙ ap (λ (test : Bool). cond test (renewed_filter_of (Some membership)) before)
-    (ap (λ (test : Bool). test && fresh) (same_endpoint_group-is at (endpoint_group_of membership)
-    ∙ ap (λ (test : Bool). test && same_group group membership.group) (same_endpoint-back endpoint membership.endpoint)
-    ∙ ap (λ (test : Bool). same_endpoint membership.endpoint endpoint && test) (same_group-back group membership.group))
-    ∙ reordered (same_endpoint membership.endpoint endpoint) (same_group membership.group group) fresh)
-
--- the filters of memberships after one membership more, of the endpoint or not
-pub more_found : (lifetime moment : ℕ) (endpoint : EndpointValue) (xs : List Membership) (membership : Membership) (group : Ip) (before after : Option RenewedFilter) (own : Bool)
-    → IsAscending membership_order (xs ++ membership ∷ []) → is_own lifetime moment endpoint membership ≡ own
-    → before ≡ renewed_filter_of (only (is_fresh lifetime moment) (membership_in xs (endpoint_group endpoint group)))
-    → after ≡ cond (own && same_group membership.group group) (renewed_filter_of (Some membership)) before
-    → after ≡ renewed_filter_of (only (is_fresh lifetime moment) (membership_in (xs ++ membership ∷ []) (endpoint_group endpoint group)))
-more_found lifetime moment endpoint xs membership group before after own ascends is so_far now =
-    now ∙ ap (cond (own && same_group membership.group group) (renewed_filter_of (Some membership))) so_far
-    ∙ ap (λ (test : Bool). cond (test && same_group membership.group group) (renewed_filter_of (Some membership)) (renewed_filter_of (only (is_fresh lifetime moment) (membership_in xs (endpoint_group endpoint group))))) (sym is)
-    ∙ sym (one_more_filter lifetime moment endpoint xs membership group ascends)
 
 -- an insertion, by the order of addresses
 pub updated : {V : Type 0} (cmp : Ip → Ip → Ordering) (before after : BTreeMap Ip V) (key : Ip) (value : Option V) → cmp ≡ ip_order → Updates cmp before after key value

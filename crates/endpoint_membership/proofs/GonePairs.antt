@@ -1,10 +1,10 @@
 -- The pairs of an endpoint of which nothing is wanted after its report.
-use Rattle.std.proofs.{Common.{◌≡◌, ℕ, Bool, true, false, not, cond, ◌&&◌, ◌||◌, List, [], ◌∷◌, Option, Some, None, is_some, if◌then◌else◌, true≢false, refl, sym, ap, subst, ◌∙◌}, lemmas.Map.{Keys.{sorted_head, sorted_tail}, Views.{tells_apart}}}
-use Rattle.std.specs.{BTreeMap.{BTreeMap, IsOrdered, get}, List.{AllByRecursion, cons_option, filter_map, Sorted.{IsStrictlySortedBy}}, Map.{keys_of, lookup}, Ordering.{is_eq}, declared.cmp.Ordering.TheVariants.{Less}}
-use Rattle.amt_values.{specs.{declared.address.Ip.{Ip}, Order.{ip_order}, EndpointValue.{EndpointValue}, Ascending.{has}}, proofs.Orders.{endpoint_order-exact, ip_order-exact}}
+use Rattle.std.proofs.{Common.{◌≡◌, ℕ, Bool, true, false, not, cond, ◌&&◌, ◌||◌, List, [], ◌∷◌, filter, map, Option, Some, None, is_some, if◌then◌else◌, true≢false, refl, sym, ap, ◌∙◌}, lemmas.{Bool.{and_parts, and_right}, Cmp.{eq_by_cmp_equiv, tied_itself}, Map.{Entries.{lookup-filter-values, option_filter}, Keys.{IsDistinct-from_sorted}, Made.{is_some-lookup}, Views.{tells_apart}}}}
+use Rattle.std.specs.{BTreeMap.{BTreeMap, IsOrdered, get}, List.{cons_option, filter_map}, Map.{keys_of}, Ordering.{eq_by_cmp, is_eq}}
+use Rattle.amt_values.{specs.{declared.address.Ip.{Ip}, Order.{ip_order}, EndpointValue.{EndpointValue}, Ascending.{has}}, proofs.Orders.{endpoint_order-exact, endpoint_order-total, ip_order-total}}
 use Rattle.source_filter.specs.{Filter.{wants_any}, declared.record.Record.{Record}}
-use Rattle.endpoint_membership.specs.{EndpointGroup.{EndpointGroup, endpoint_group_order, same_endpoint, same_endpoint_group, same_group}, EndpointMemberships.{AreGone, gone_of_entry, membership_of_entry, membership_of_renewed, renewed_filter_after_all, renewed_filter_of}, Log.{on_group}}
-use Rattle.endpoint_membership.{specs.{Membership.{Membership, is_fresh}, Memberships.{membership_in}, Stored.{only}, declared.after_report.RenewedFilter.{RenewedFilter}}, proofs.{EndpointGroupOrder.{same_endpoint_group-is}, FilterMap.{endpoint_group_by_group, membership_in-filters}}}
+use Rattle.endpoint_membership.specs.{EndpointGroup.{EndpointGroup, endpoint_group_order, same_endpoint, same_group}, EndpointMemberships.{AreGone, gone_of_entry, membership_of_entry, membership_of_renewed, renewed_filter_after_all, renewed_filter_of}, Log.{on_group}}
+use Rattle.endpoint_membership.{specs.{Membership.{Membership, is_fresh}, Memberships.{membership_in}, Stored.{only}, declared.after_report.RenewedFilter.{RenewedFilter}}, proofs.{EndpointGroupOrder.{same_endpoint_group-is}, FilterMap.{membership_in-filters}}}
 
 abbrev endpoint_group : EndpointValue → Ip → EndpointGroup
 endpoint_group endpoint group = record { endpoint = endpoint; group = group }
@@ -14,53 +14,46 @@ abbrev is_unwanted : Option RenewedFilter → Bool
 is_unwanted None = false
 is_unwanted (Some renewed_filter) = not (wants_any renewed_filter.filter)
 
-first_of : (one other later : Bool) → (later ≡ true → one ≡ true) → ((one && other) || later) ≡ true → one ≡ true
-first_of true other later more is = refl
-first_of false other later more is = more is
+abbrev unwanted : RenewedFilter → Bool
+unwanted renewed_filter = not (wants_any renewed_filter.filter)
 
-of_by : (endpoint : EndpointValue) (wants : Bool) (group : Ip) (rest : List EndpointGroup) (at : EndpointGroup) → (has endpoint_group_order rest at ≡ true → same_endpoint at.endpoint endpoint ≡ true)
-    → has endpoint_group_order (cons_option (if wants then None else Some (endpoint_group endpoint group)) rest) at ≡ true → same_endpoint at.endpoint endpoint ≡ true
-of_by endpoint true group rest at more found = more found
-of_by endpoint false group rest at more found =
-    first_of (same_endpoint at.endpoint endpoint) (same_group at.group group) (has endpoint_group_order rest at) more
-    (ap (λ (here : Bool). here || has endpoint_group_order rest at) (sym (same_endpoint_group-is at (endpoint_group endpoint group))) ∙ found)
+gone_by : (endpoint : EndpointValue) (wants : Bool) (entry : Ip × RenewedFilter) (rest : List (Ip × RenewedFilter)) (later : List EndpointGroup) → later ≡ map (endpoint_group endpoint) (keys_of rest)
+    → cons_option (if wants then None else Some (endpoint_group endpoint entry.0)) later ≡ map (endpoint_group endpoint) (keys_of (cond (not wants) (entry ∷ rest) rest))
+gone_by endpoint true entry rest later is = is
+gone_by endpoint false entry rest later is = ap (λ (more : List EndpointGroup). endpoint_group endpoint entry.0 ∷ more) is
 
--- such pairs are the endpoint's
-gone-of : (endpoint : EndpointValue) (entries : List (Ip × RenewedFilter)) (at : EndpointGroup) → has endpoint_group_order (filter_map (gone_of_entry endpoint) entries) at ≡ true → same_endpoint at.endpoint endpoint ≡ true
-gone-of endpoint [] at found = absurd (true≢false (sym found))
-gone-of endpoint (entry ∷ rest) at found = of_by endpoint (wants_any entry.1.filter) entry.0 (filter_map (gone_of_entry endpoint) rest) at (gone-of endpoint rest at) found
+-- such pairs are the endpoint's, of the groups of which nothing is wanted
+gone-groups : (endpoint : EndpointValue) (entries : List (Ip × RenewedFilter)) → filter_map (gone_of_entry endpoint) entries ≡ map (endpoint_group endpoint) (keys_of (filter (λ entry. unwanted entry.1) entries))
+gone-groups endpoint [] = refl
+gone-groups endpoint (entry ∷ rest) = gone_by endpoint (wants_any entry.1.filter) entry (filter (λ one. unwanted one.1) rest) (filter_map (gone_of_entry endpoint) rest) (gone-groups endpoint rest)
 
-same_by_group : (endpoint : EndpointValue) (group key : Ip) → same_endpoint_group (endpoint_group endpoint group) (endpoint_group endpoint key) ≡ same_group group key
-same_by_group endpoint group key = ap is_eq (endpoint_group_by_group endpoint group key)
+both_by : (here group later : Bool) → ((here && group) || (here && later)) ≡ (here && (group || later))
+both_by true group later = refl
+both_by false group later = refl
 
-after_by : (endpoint : EndpointValue) (wants : Bool) (group key : Ip) (rest : List EndpointGroup) → same_group group key ≡ false → has endpoint_group_order rest (endpoint_group endpoint group) ≡ false
-    → has endpoint_group_order (cons_option (if wants then None else Some (endpoint_group endpoint key)) rest) (endpoint_group endpoint group) ≡ false
-after_by endpoint true group key rest apart more = more
-after_by endpoint false group key rest apart more = rw (same_by_group endpoint group key ∙ apart) more
+has-groups : (endpoint : EndpointValue) (groups : List Ip) (at : EndpointGroup) → has endpoint_group_order (map (endpoint_group endpoint) groups) at ≡ (same_endpoint at.endpoint endpoint && has ip_order groups at.group)
+has-groups endpoint [] at = sym (and_right (same_endpoint at.endpoint endpoint) false refl)
+has-groups endpoint (group ∷ rest) at =
+    ap (λ (here : Bool). here || has endpoint_group_order (map (endpoint_group endpoint) rest) at) (same_endpoint_group-is at (endpoint_group endpoint group))
+    ∙ ap (λ (later : Bool). (same_endpoint at.endpoint endpoint && same_group at.group group) || later) (has-groups endpoint rest at)
+    ∙ both_by (same_endpoint at.endpoint endpoint) (same_group at.group group) (has ip_order rest at.group)
 
--- no entry is of a group before them all
-gone-after : (endpoint : EndpointValue) (entries : List (Ip × RenewedFilter)) (group : Ip) → AllByRecursion (λ key. ip_order group key ≡ Less) (keys_of entries)
-    → has endpoint_group_order (filter_map (gone_of_entry endpoint) entries) (endpoint_group endpoint group) ≡ false
-gone-after endpoint [] group less = refl
-gone-after endpoint (entry ∷ rest) group less =
-    after_by endpoint (wants_any entry.1.filter) group entry.0 (filter_map (gone_of_entry endpoint) rest) (ap is_eq less.0) (gone-after endpoint rest group less.1)
+some_by : (found : Option RenewedFilter) → is_some (option_filter unwanted found) ≡ is_unwanted found
+some_by None = refl
+some_by (Some renewed_filter) = by (unwanted renewed_filter)
+  where
+    by : (test : Bool) → is_some (cond test (Some renewed_filter) None) ≡ test
+    by true = refl
+    by false = refl
 
-is_by : (endpoint : EndpointValue) (wants here : Bool) (group key : Ip) (renewed_filter : RenewedFilter) (rest : List EndpointGroup) (later : Option RenewedFilter) → wants_any renewed_filter.filter ≡ wants → same_group group key ≡ here
-    → (here ≡ true → has endpoint_group_order rest (endpoint_group endpoint group) ≡ false) → has endpoint_group_order rest (endpoint_group endpoint group) ≡ is_unwanted later
-    → has endpoint_group_order (cons_option (if wants then None else Some (endpoint_group endpoint key)) rest) (endpoint_group endpoint group) ≡ is_unwanted (cond here (Some renewed_filter) later)
-is_by endpoint true true group key renewed_filter rest later wants same none more = none refl ∙ rw wants refl
-is_by endpoint true false group key renewed_filter rest later wants same none more = more
-is_by endpoint false true group key renewed_filter rest later wants same none more = rw (same_by_group endpoint group key ∙ same) (rw wants refl)
-is_by endpoint false false group key renewed_filter rest later wants same none more = rw (same_by_group endpoint group key ∙ same) more
-
--- a pair is such a pair where its group's filter wants nothing
-gone-is : (endpoint : EndpointValue) (entries : List (Ip × RenewedFilter)) (group : Ip) → IsStrictlySortedBy ip_order (keys_of entries)
-    → has endpoint_group_order (filter_map (gone_of_entry endpoint) entries) (endpoint_group endpoint group) ≡ is_unwanted (lookup (λ key. is_eq (ip_order group key)) entries)
-gone-is endpoint [] group sorted = refl
-gone-is endpoint (entry ∷ rest) group sorted =
-    is_by endpoint (wants_any entry.1.filter) (same_group group entry.0) group entry.0 entry.1 (filter_map (gone_of_entry endpoint) rest) (lookup (λ key. is_eq (ip_order group key)) rest) refl refl
-    (λ same. gone-after endpoint rest group (subst (λ (key : Ip). AllByRecursion (λ later. ip_order key later ≡ Less) (keys_of rest)) (sym (tells_apart ip_order-exact group entry.0 same)) (sorted_head ip_order entry.0 (keys_of rest) sorted)))
-    (gone-is endpoint rest group (sorted_tail ip_order entry.0 (keys_of rest) sorted))
+-- a pair is such a pair where it is the endpoint's and its group's filter wants nothing
+gone-is : (endpoint : EndpointValue) (filters : BTreeMap Ip RenewedFilter) (at : EndpointGroup) → IsOrdered ip_order filters
+    → has endpoint_group_order (filter_map (gone_of_entry endpoint) filters.entries) at ≡ (same_endpoint at.endpoint endpoint && is_unwanted (get ip_order filters at.group))
+gone-is endpoint filters at ordered =
+    let entries = filter (λ (entry : Ip × RenewedFilter). unwanted entry.1) filters.entries in
+    ap (λ (pairs : List EndpointGroup). has endpoint_group_order pairs at) (gone-groups endpoint filters.entries) ∙ has-groups endpoint (keys_of entries) at
+    ∙ ap (λ (there : Bool). same_endpoint at.endpoint endpoint && there) (sym (is_some-lookup (eq_by_cmp ip_order at.group) entries)
+    ∙ ap is_some (lookup-filter-values (eq_by_cmp_equiv ip_order-total) unwanted at.group filters.entries (IsDistinct-from_sorted ip_order (keys_of filters.entries) ordered)) ∙ some_by (get ip_order filters at.group))
 
 unwanted_by : (wants : Bool) (membership : Membership) → not wants ≡ true → (if wants then Some membership else None) ≡ None
 unwanted_by true membership unwanted = absurd (true≢false (sym unwanted))
@@ -98,17 +91,17 @@ pub AreGone-filters : (lifetime moment : ℕ) (endpoint : EndpointValue) (record
     ≡ renewed_filter_after_all moment (on_group group records) (renewed_filter_of (only (is_fresh lifetime moment) (membership_in rows (endpoint_group endpoint group)))))
     → own ≡ filter_map (membership_of_entry endpoint) filters.entries → gone ≡ filter_map (gone_of_entry endpoint) filters.entries → AreGone lifetime moment endpoint rows own gone
 AreGone-filters lifetime moment endpoint records rows own gone filters ordered each owned left =
-    let of : (at : EndpointGroup) → has endpoint_group_order gone at ≡ true → same_endpoint at.endpoint endpoint ≡ true = λ at found. gone-of endpoint filters.entries at (ap (λ (pairs : List EndpointGroup). has endpoint_group_order pairs at) (sym left) ∙ found) in
-    let unwanted : (group : Ip) → has endpoint_group_order gone (endpoint_group endpoint group) ≡ is_unwanted (get ip_order filters group) = λ group.
-    ap (λ (pairs : List EndpointGroup). has endpoint_group_order pairs (endpoint_group endpoint group)) left ∙ gone-is endpoint filters.entries group ordered in
+    let gone_at : (at : EndpointGroup) → has endpoint_group_order gone at ≡ (same_endpoint at.endpoint endpoint && is_unwanted (get ip_order filters at.group)) = λ at.
+    ap (λ (pairs : List EndpointGroup). has endpoint_group_order pairs at) left ∙ gone-is endpoint filters at ordered in
     let found_in : (group : Ip) → membership_in own (endpoint_group endpoint group) ≡ membership_of_renewed endpoint group (get ip_order filters group) = λ group.
     ap (λ (all : List Membership). membership_in all (endpoint_group endpoint group)) owned ∙ membership_in-filters endpoint filters.entries group ordered in record {
-      of = of;
+      of = λ at found. (and_parts (same_endpoint at.endpoint endpoint) (is_unwanted (get ip_order filters at.group)) (sym (gone_at at) ∙ found)).0;
       none = λ at found.
-          let exact = ap (λ (one : EndpointValue). endpoint_group one at.group) (tells_apart endpoint_order-exact at.endpoint endpoint (of at found)) in
-          ap (membership_in own) exact ∙ found_in at.group
-          ∙ unwanted_none endpoint at.group (get ip_order filters at.group) (sym (unwanted at.group) ∙ ap (has endpoint_group_order gone) (sym exact) ∙ found);
+          let both = and_parts (same_endpoint at.endpoint endpoint) (is_unwanted (get ip_order filters at.group)) (sym (gone_at at) ∙ found) in
+          ap (membership_in own) (ap (λ (one : EndpointValue). endpoint_group one at.group) (tells_apart endpoint_order-exact at.endpoint endpoint both.0)) ∙ found_in at.group
+          ∙ unwanted_none endpoint at.group (get ip_order filters at.group) both.1;
       all = λ group none out.
+          let wanted = sym (gone_at (endpoint_group endpoint group) ∙ ap (λ (here : Bool). here && is_unwanted (get ip_order filters group)) (ap is_eq (tied_itself endpoint_order-total endpoint))) ∙ out in
           no_membership (only (is_fresh lifetime moment) (membership_in rows (endpoint_group endpoint group)))
-          (none_before moment (on_group group records) _ (sym (each group) ∙ none_at_all endpoint group (get ip_order filters group) (sym (unwanted group) ∙ out) (sym (found_in group) ∙ none)));
+          (none_before moment (on_group group records) _ (sym (each group) ∙ none_at_all endpoint group (get ip_order filters group) wanted (sym (found_in group) ∙ none)));
     }

@@ -1,11 +1,11 @@
 -- The endpoints of a group that get a packet, by the group's members.
-use Rattle.std.proofs.{Common.{◌≡◌, ℕ, ◌+◌, ◌<◌, Bor, Bool, true, false, cond, ◌&&◌, ◌||◌, List, [], ◌∷◌, ◌++◌, map, filter, length, nat_lt, Option, Some, None, is_some, refl, sym, ap, subst, ◌∙◌, arith}, lemmas.{Bool.{and_left, and_parts}, Cmp.{eq_by_cmp_equiv, tied_itself}}}
+use Rattle.std.proofs.{Common.{◌≡◌, ℕ, ◌+◌, ◌<◌, ◌≤◌, Bor, Bool, true, false, cond, ◌&&◌, ◌||◌, List, [], ◌∷◌, ◌++◌, map, filter, length, nat_lt, Option, Some, None, is_some, refl, sym, ap, subst, ◌∙◌, arith}, lemmas.{Bool.{and_left, and_parts}, Cmp.{eq_by_cmp_equiv, tied_itself}}}
 use Rattle.std.{proofs.lemmas.{List.{append-nil, length-append, map-append, Elements.{filter-append}}, Map.{Iter.{rest_so_far}, Made.{is_some-lookup}, Views.{All-turn}, Lookups.{CmpEqualImpliesEq}}}, specs.BTreeMap.{BTreeMap, IsOrdered, get, is_at, keys}}
 use Rattle.std.specs.{BTreeMap.Range.{IsEntryInRange, IsRangeOf, entries_between, range_contains}, Iterator.{Yields}, List.{AllByRecursion, Sorted.{IsStrictlySortedBy}}, Map.{keys_of, Iter.{TakesFirst, deref_pair}}, Ordering.{is_eq, is_le, nat_cmp, ordering_then}, declared.{cmp.Ordering.{Ordering, TheVariants.{Less, Equal, Greater}}, ops.Bound.TheVariants.{Included, Unbounded}}}
-use Rattle.amt_values.{specs.{declared.address.Ip.{Ip}, Order.{endpoint_order, ip_order}, EndpointValue.{EndpointValue}, Ascending.{has, IsAscending}}, proofs.{Orders.{both_tied, endpoint_order-exact, endpoint_order-total, ip_order-exact, ip_order-total}, AscendingLaws.{Equal-from_test, IsAscending-filter, has-filter, same_ascending}}}
+use Rattle.amt_values.{specs.{declared.address.Ip.{Ip}, Order.{endpoint_order, ip_order}, EndpointValue.{EndpointValue}, Ascending.{has, IsAscending}}, proofs.{Orders.{both_tied, endpoint_order-exact, endpoint_order-total, ip_order-exact, ip_order-total}, AscendingLaws.{Equal-from_test, IsAscending-filter, has-filter}}}
 use Rattle.source_filter.specs.Filter.{admits}
-use Rattle.endpoint_membership.specs.{EndpointGroup.{EndpointGroup, same_group}, Filters.{AreOrdered, FiltersValue, filter_at, group_member_order}, Membership.{Membership, membership_order}, Memberships.{membership_in}, Parts.{stored_membership, stored_memberships}, Stored.{is_target, only, targets_in}}
-use Rattle.endpoint_membership.{specs.declared.{keys.GroupMember.{GroupMember}, stored.StoredFilter.{StoredFilter}}, proofs.{KeysTogether.{filter-none, filter-wider, in_range-shares, least_number, others}, PairsWalked.{stored_at}, StoredView.{IsAscending-stored, membership_in-stored, membership_with}, TargetsByLog.{has-targets, IsAscending-targets}}}
+use Rattle.endpoint_membership.specs.{EndpointGroup.{EndpointGroup, same_group}, Filters.{group_member_order, membership_with, stored_membership}, Limits.{live_count}, Membership.{Membership}, Memberships.{membership_in}, Stored.{AreTargets, is_target, only}}
+use Rattle.endpoint_membership.{specs.declared.{keys.GroupMember.{GroupMember}, stored.StoredFilter.{StoredFilter}}, proofs.{KeptFilters.{some_with}, KeysTogether.{All-passing, filter-none, filter-wider, in_range-shares, least_number, others}, TargetsByLog.{is_some-cond, length-targets}}}
 
 -- the members that a walk over filters has seen
 abbrev pub seen_members : List (Bor GroupMember × Bor StoredFilter) → List GroupMember
@@ -20,73 +20,27 @@ made group endpoint = record { group = group; endpoint = endpoint }
 
 -- a member before all others of the group
 abbrev pub least_member : Ip → GroupMember
-least_member group = record { group = group; endpoint = record { address = 0; port = 0 } }
+least_member group = made group (record { address = 0; port = 0 })
 
--- whether the pair has a membership that counts at the moment and lets the source in
-abbrev pub lets_in : ℕ → ℕ → Ip → List Membership → EndpointGroup → Bool
-lets_in lifetime moment source rows at = is_some (only (is_target lifetime moment at.group source) (membership_in rows at))
-
--- a member of the group whose membership lets the packet in
-abbrev pub is_target_member : ℕ → ℕ → Ip → Ip → List Membership → GroupMember → Bool
-is_target_member lifetime moment group source rows member = same_group member.group group && lets_in lifetime moment source rows (pair member.endpoint group)
-
--- at a member of the group the membership decides
-pub decided : (lifetime moment : ℕ) (group source : Ip) (rows : List Membership) (member : GroupMember) → same_group member.group group ≡ true
-    → is_target_member lifetime moment group source rows member ≡ lets_in lifetime moment source rows (pair member.endpoint group)
-decided lifetime moment group source rows member same = ap (λ (here : Bool). here && lets_in lifetime moment source rows (pair member.endpoint group)) same
-
--- the endpoints of such members
-abbrev pub targets_among : ℕ → ℕ → Ip → Ip → List Membership → List GroupMember → List EndpointValue
-targets_among lifetime moment group source rows members = map (λ member. member.endpoint) (filter (is_target_member lifetime moment group source rows) members)
-
-same_itself : (group : Ip) → same_group group group ≡ true
-same_itself group = ap is_eq (tied_itself ip_order-total group)
-
-counted_by : (fresh admitted : Bool) (membership : Membership) → is_some (cond ((true && fresh) && admitted) (Some membership) None) ≡ (fresh && admitted)
-counted_by true true membership = refl
-counted_by true false membership = refl
-counted_by false admitted membership = refl
-
--- whether a stored filter lets a packet in
-pub lets_in-some : (lifetime moment : ℕ) (source : Ip) (rows : List Membership) (at : EndpointGroup) (stored : StoredFilter) → membership_in rows at ≡ Some (stored_membership (at, stored))
-    → (nat_lt moment (stored.renewed + lifetime) && admits stored.filter source) ≡ lets_in lifetime moment source rows at
-lets_in-some lifetime moment source rows at stored is =
-    let membership = stored_membership (at, stored) in
-    sym (ap (λ (found : Option Membership). is_some (only (is_target lifetime moment at.group source) found)) is
-    ∙ ap (λ (same : Bool). is_some (cond ((same && nat_lt moment (stored.renewed + lifetime)) && admits stored.filter source) (Some membership) None)) (same_itself at.group)
-    ∙ counted_by (nat_lt moment (stored.renewed + lifetime)) (admits stored.filter source) membership)
-
-some_with : (at : EndpointGroup) (stored : Option StoredFilter) → is_some (membership_with at stored) ≡ is_some stored
-some_with at None = refl
-some_with at (Some stored) = refl
+abbrev pub from_least : Ip → GroupMember → Bool
+from_least group = range_contains group_member_order (Included (least_member group)) Unbounded
 
 -- each filter stands by group too
-abbrev pub AreByGroup : BTreeMap GroupMember StoredFilter → FiltersValue → Type 0
-AreByGroup kept filters = (member : GroupMember) → get group_member_order kept member ≡ filter_at filters (pair member.endpoint member.group)
+abbrev pub AreByGroup : BTreeMap GroupMember StoredFilter → List Membership → Type 0
+AreByGroup kept rows = (member : GroupMember) → membership_with (pair member.endpoint member.group) (get group_member_order kept member) ≡ membership_in rows (pair member.endpoint member.group)
 
 -- a member is there where its pair has a membership
-abbrev pub AreMembersOf : List GroupMember → List Membership → Type 0
+abbrev AreMembersOf : List GroupMember → List Membership → Type 0
 AreMembersOf members rows = (member : GroupMember) → has group_member_order members member ≡ is_some (membership_in rows (pair member.endpoint member.group))
 
 -- the members with a filter are those of the memberships
-AreMembersOf-kept : (kept : BTreeMap GroupMember StoredFilter) (filters : FiltersValue) → AreByGroup kept filters → AreMembersOf (keys kept) (stored_memberships filters)
-AreMembersOf-kept kept filters by_group member =
-    let at = pair member.endpoint member.group in
-    sym (is_some-lookup (is_at (group_member_order member)) kept.entries) ∙ ap is_some (by_group member) ∙ sym (some_with at (filter_at filters at)) ∙ ap is_some (sym (membership_in-stored filters at))
+AreMembersOf-kept : (kept : BTreeMap GroupMember StoredFilter) (rows : List Membership) → AreByGroup kept rows → AreMembersOf (keys kept) rows
+AreMembersOf-kept kept rows by_group member =
+    sym (is_some-lookup (is_at (group_member_order member)) kept.entries) ∙ sym (some_with (pair member.endpoint member.group) (get group_member_order kept member)) ∙ ap is_some (by_group member)
 
 -- all members are of the group
 abbrev AreIn : Ip → List GroupMember → Type 0
 AreIn group members = AllByRecursion (λ member. same_group member.group group ≡ true) members
-
-in_cond : (passes : Bool) (group : Ip) (member : GroupMember) (some : List GroupMember) → (passes ≡ true → same_group member.group group ≡ true) → AreIn group some → AreIn group (cond passes (member ∷ some) some)
-in_cond true group member some here rest = (here refl, rest)
-in_cond false group member some here rest = rest
-
-AreIn-targets : (lifetime moment : ℕ) (group source : Ip) (rows : List Membership) (members : List GroupMember) → AreIn group (filter (is_target_member lifetime moment group source rows) members)
-AreIn-targets lifetime moment group source rows [] = tt
-AreIn-targets lifetime moment group source rows (member ∷ rest) =
-    in_cond (is_target_member lifetime moment group source rows member) group member (filter (is_target_member lifetime moment group source rows) rest)
-    (λ passes. (and_parts (same_group member.group group) (lets_in lifetime moment source rows (pair member.endpoint group)) passes).0) (AreIn-targets lifetime moment group source rows rest)
 
 tied : (group other : Ip) → same_group other group ≡ true → ip_order group other ≡ Equal
 tied group other same = Equal-from_test (ip_order group other) ((eq_by_cmp_equiv ip_order-total).symm group other ∙ same)
@@ -95,7 +49,7 @@ abbrev endpoints : List GroupMember → List EndpointValue
 endpoints members = map (λ member. member.endpoint) members
 
 -- among members of one group an endpoint is found as the member
-has-endpoints : (group : Ip) (members : List GroupMember) (endpoint : EndpointValue) → AreIn group members → has endpoint_order (endpoints members) endpoint ≡ has group_member_order members (record { group = group; endpoint = endpoint })
+has-endpoints : (group : Ip) (members : List GroupMember) (endpoint : EndpointValue) → AreIn group members → has endpoint_order (endpoints members) endpoint ≡ has group_member_order members (made group endpoint)
 has-endpoints group [] endpoint all = refl
 has-endpoints group (member ∷ rest) endpoint all =
     let later = has endpoint_order (endpoints rest) endpoint in
@@ -127,25 +81,6 @@ group_member_order-exact one other same =
     ap (λ (group : Ip). made group one.endpoint) (ip_order-exact one.group other.group both.0)
     ∙ ap (λ (endpoint : EndpointValue). made other.group endpoint) (endpoint_order-exact one.endpoint other.endpoint both.1)
 
-only_found : (same : Bool) (test : Membership → Bool) (found : Option Membership) → same ≡ true → (is_some found && (same && is_some (only test found))) ≡ is_some (only test found)
-only_found true test None is = refl
-only_found true test (Some membership) is = refl
-only_found false test found is = cc
-
--- the members that get a packet are the endpoints of the memberships that let it in
-pub targets_among-all : (lifetime moment : ℕ) (group source : Ip) (rows : List Membership) (members : List GroupMember) → IsAscending membership_order rows → IsAscending group_member_order members → AreMembersOf members rows
-    → targets_among lifetime moment group source rows members ≡ targets_in lifetime moment group source rows
-targets_among-all lifetime moment group source rows members ascends ordered joined =
-    let test = is_target_member lifetime moment group source rows in
-    let all = AreIn-targets lifetime moment group source rows members in
-    same_ascending endpoint_order-total endpoint_order-exact (endpoints (filter test members)) (targets_in lifetime moment group source rows)
-    (IsAscending-endpoints group (filter test members) all (IsAscending-filter group_member_order test members ordered)) (IsAscending-targets lifetime moment group source rows ascends)
-    (λ endpoint. let member = made group endpoint in
-    has-endpoints group (filter test members) endpoint all ∙ has-filter group_member_order-exact test members member
-    ∙ ap (λ (there : Bool). there && test member) (joined member)
-    ∙ only_found (same_group group group) (is_target lifetime moment group source) (membership_in rows (pair endpoint group)) (same_itself group)
-    ∙ sym (has-targets lifetime moment group source rows endpoint ascends))
-
 least_pair : (first second : Ordering) → is_le first ≡ true → is_le second ≡ true → is_le (ordering_then first second) ≡ true
 least_pair Less second le more = refl
 least_pair Equal second le more = more
@@ -154,89 +89,107 @@ least_pair Greater second le more = cc
 least_endpoint : (endpoint : EndpointValue) → is_le (endpoint_order (record { address = 0; port = 0 }) endpoint) ≡ true
 least_endpoint endpoint = least_pair (nat_cmp 0 endpoint.address) (nat_cmp 0 endpoint.port) (least_number endpoint.address) (least_number endpoint.port)
 
-abbrev pub from_least : Ip → GroupMember → Bool
-from_least group = range_contains group_member_order (Included (least_member group)) Unbounded
+only_found : (same : Bool) (test : Membership → Bool) (found : Option Membership) → same ≡ true → (is_some found && (same && is_some (only test found))) ≡ is_some (only test found)
+only_found true test None is = refl
+only_found true test (Some membership) is = refl
+only_found false test found is = cc
 
-in_range : (group : Ip) (member : GroupMember) → same_group member.group group ≡ true → from_least group member ≡ true
-in_range group member same =
-    in_range-shares ip_order endpoint_order (λ (one : GroupMember). one.group) (λ (one : GroupMember). one.endpoint) ip_order-total (least_member group)
-    least_endpoint member same
+module _ (lifetime moment : ℕ) (group source : Ip) (rows : List Membership) where
+  -- whether the endpoint's membership in the group lets the packet in
+  abbrev pub lets_in : EndpointValue → Bool
+  lets_in endpoint = is_some (only (is_target lifetime moment source) (membership_in rows (pair endpoint group)))
 
--- members from the least one of the group on are all that count
-pub targets_among-range : (lifetime moment : ℕ) (group source : Ip) (rows : List Membership) (members : List GroupMember)
-    → targets_among lifetime moment group source rows (filter (from_least group) members) ≡ targets_among lifetime moment group source rows members
-targets_among-range lifetime moment group source rows members =
-    ap endpoints (filter-wider (is_target_member lifetime moment group source rows) (from_least group)
-    (λ member passes. in_range group member (and_parts (same_group member.group group) (lets_in lifetime moment source rows (pair member.endpoint group)) passes).0) members)
+  -- a member of the group whose membership does
+  abbrev pub is_target_member : GroupMember → Bool
+  is_target_member member = same_group member.group group && lets_in member.endpoint
 
-targets_among-append : (lifetime moment : ℕ) (group source : Ip) (rows : List Membership) (before rest : List GroupMember)
-    → targets_among lifetime moment group source rows (before ++ rest) ≡ targets_among lifetime moment group source rows before ++ targets_among lifetime moment group source rows rest
-targets_among-append lifetime moment group source rows before rest =
-    let test = is_target_member lifetime moment group source rows in
-    ap endpoints (filter-append test before rest) ∙ map-append (λ (member : GroupMember). member.endpoint) (filter test before) (filter test rest)
+  -- the endpoints of such members
+  abbrev pub targets_among : List GroupMember → List EndpointValue
+  targets_among members = endpoints (filter is_target_member members)
 
-no_targets : (lifetime moment : ℕ) (group source : Ip) (rows : List Membership) (members : List GroupMember) → AllByRecursion (λ member. same_group member.group group ≡ false) members
-    → AllByRecursion (λ member. is_target_member lifetime moment group source rows member ≡ false) members
-no_targets lifetime moment group source rows [] others = tt
-no_targets lifetime moment group source rows (member ∷ rest) others =
-    (and_left (same_group member.group group) (lets_in lifetime moment source rows (pair member.endpoint group)) others.0, no_targets lifetime moment group source rows rest others.1)
+  in_group : (member : GroupMember) → is_target_member member ≡ true → same_group member.group group ≡ true
+  in_group member passes = (and_parts (same_group member.group group) (lets_in member.endpoint) passes).0
 
--- from a member of another group on none counts
-pub targets_among-stop : (lifetime moment : ℕ) (group source : Ip) (rows : List Membership) (members before rest : List GroupMember) (member : GroupMember) → IsAscending group_member_order members
-    → filter (from_least group) members ≡ before ++ member ∷ rest → same_group member.group group ≡ false
-    → targets_among lifetime moment group source rows before ≡ targets_among lifetime moment group source rows members
-targets_among-stop lifetime moment group source rows members before rest member ordered is other =
-    let past = others ip_order endpoint_order (λ (one : GroupMember). one.group) (λ (one : GroupMember). one.endpoint) ip_order-total (least_member group) members before rest member ordered is other in
-    let test = is_target_member lifetime moment group source rows in
-    let none = ap endpoints (filter-none test (member ∷ rest) (no_targets lifetime moment group source rows (member ∷ rest) past)) in
-    sym (sym (targets_among-range lifetime moment group source rows members) ∙ ap (targets_among lifetime moment group source rows) is
-    ∙ targets_among-append lifetime moment group source rows before (member ∷ rest) ∙ ap (λ more. targets_among lifetime moment group source rows before ++ more) none
-    ∙ append-nil (targets_among lifetime moment group source rows before))
+  -- at a member of the group the membership decides
+  pub decided : (member : GroupMember) → same_group member.group group ≡ true → is_target_member member ≡ lets_in member.endpoint
+  decided member same = ap (λ (here : Bool). here && lets_in member.endpoint) same
 
--- before a member that counts there is room for its endpoint
-pub targets_among-room : (lifetime moment : ℕ) (group source : Ip) (rows : List Membership) (members before rest : List GroupMember) (member : GroupMember)
-    → filter (from_least group) members ≡ before ++ member ∷ rest → is_target_member lifetime moment group source rows member ≡ true
-    → length (targets_among lifetime moment group source rows before) < length (targets_among lifetime moment group source rows members)
-targets_among-room lifetime moment group source rows members before rest member is passes =
-    let test = is_target_member lifetime moment group source rows in
-    let so_far = targets_among lifetime moment group source rows before in
-    let whole = sym (targets_among-range lifetime moment group source rows members) ∙ ap (targets_among lifetime moment group source rows) is ∙ targets_among-append lifetime moment group source rows before (member ∷ rest) in
-    let more : targets_among lifetime moment group source rows (member ∷ rest) ≡ member.endpoint ∷ targets_among lifetime moment group source rows rest = rw passes refl in
-    let long = ap (λ (all : List EndpointValue). length all) (whole ∙ ap (λ (later : List EndpointValue). so_far ++ later) more) in
-    omega (arith, long, length-append so_far (member.endpoint ∷ targets_among lifetime moment group source rows rest))
+  -- the members that get a packet are the targets
+  AreTargets-among : (members : List GroupMember) → IsAscending group_member_order members → AreMembersOf members rows → AreTargets lifetime moment group source rows (targets_among members)
+  AreTargets-among members ordered joined =
+      let all = All-passing (λ (member : GroupMember). same_group member.group group ≡ true) is_target_member in_group members in record {
+        ascend = IsAscending-endpoints group (filter is_target_member members) all (IsAscending-filter group_member_order is_target_member members ordered);
+        each = λ endpoint. has-endpoints group (filter is_target_member members) endpoint all ∙ has-filter group_member_order-exact is_target_member members (made group endpoint)
+            ∙ ap (λ (there : Bool). there && is_target_member (made group endpoint)) (joined (made group endpoint))
+            ∙ only_found (same_group group group) (is_target lifetime moment source) (membership_in rows (pair endpoint group)) (ap is_eq (tied_itself ip_order-total group));
+      }
 
-one_more_by : (passes : Bool) (test : GroupMember → Bool) (member : GroupMember) → test member ≡ passes → endpoints (filter test (member ∷ [])) ≡ cond passes (member.endpoint ∷ []) []
-one_more_by true test member is = rw is refl
-one_more_by false test member is = rw is refl
+  -- members from the least one of the group on are all that count
+  targets_among-range : (members : List GroupMember) → targets_among (filter (from_least group) members) ≡ targets_among members
+  targets_among-range members =
+      ap endpoints (filter-wider is_target_member (from_least group)
+      (λ member passes. in_range-shares ip_order endpoint_order (λ (one : GroupMember). one.group) (λ (one : GroupMember). one.endpoint) ip_order-total (least_member group) least_endpoint member (in_group member passes)) members)
 
--- the filter of a member decides whether its membership lets a packet in
-pub lets_in-kept : (lifetime moment : ℕ) (group source : Ip) (kept : BTreeMap GroupMember StoredFilter) (filters : FiltersValue) (rows : List Membership) (member : GroupMember) (stored : StoredFilter) → AreByGroup kept filters
-    → stored_memberships filters ≡ rows → get group_member_order kept member ≡ Some stored → same_group member.group group ≡ true
-    → (nat_lt moment (stored.renewed + lifetime) && admits stored.filter source) ≡ lets_in lifetime moment source rows (pair member.endpoint group)
-lets_in-kept lifetime moment group source kept filters rows member stored by_group view found same =
-    let at = pair member.endpoint group in
-    let here : filter_at filters at ≡ Some stored = ap (λ (one : Ip). filter_at filters (pair member.endpoint one)) (ip_order-exact group member.group (tied group member.group same)) ∙ sym (by_group member) ∙ found in
-    lets_in-some lifetime moment source rows at stored (stored_at filters rows at (Some stored) view (sym here))
+  targets_among-append : (before rest : List GroupMember) → targets_among (before ++ rest) ≡ targets_among before ++ targets_among rest
+  targets_among-append before rest = ap endpoints (filter-append is_target_member before rest) ∙ map-append (λ (member : GroupMember). member.endpoint) (filter is_target_member before) (filter is_target_member rest)
 
--- one member of the group more
-pub targets_among-more : (lifetime moment : ℕ) (group source : Ip) (rows : List Membership) (seen : List (Bor GroupMember × Bor StoredFilter)) (item : Bor GroupMember × Bor StoredFilter) (before after : List EndpointValue) (lets : Bool)
-    → same_group item.0.now.group group ≡ true → lets_in lifetime moment source rows (pair item.0.now.endpoint group) ≡ lets → before ≡ targets_among lifetime moment group source rows (seen_members seen)
-    → after ≡ before ++ cond lets (item.0.now.endpoint ∷ []) [] → after ≡ targets_among lifetime moment group source rows (seen_members (seen ++ item ∷ []))
-targets_among-more lifetime moment group source rows seen item before after lets same is so_far now =
-    let among = targets_among lifetime moment group source rows in
-    let member = item.0.now in
-    let passes = decided lifetime moment group source rows member same ∙ is in
-    let more = ap keys_of (map-append deref_pair seen (item ∷ [])) ∙ map-append (λ (entry : GroupMember × StoredFilter). entry.0) (map deref_pair seen) (deref_pair item ∷ []) in
-    now ∙ ap (λ (first : List EndpointValue). first ++ cond lets (member.endpoint ∷ []) []) so_far
-    ∙ sym (ap among more ∙ targets_among-append lifetime moment group source rows (seen_members seen) (member ∷ [])
-    ∙ ap (λ (last : List EndpointValue). among (seen_members seen) ++ last) (one_more_by lets (is_target_member lifetime moment group source rows) member passes))
+  no_targets : (members : List GroupMember) → AllByRecursion (λ member. same_group member.group group ≡ false) members → AllByRecursion (λ member. is_target_member member ≡ false) members
+  no_targets [] others = tt
+  no_targets (member ∷ rest) others = (and_left (same_group member.group group) (lets_in member.endpoint) others.0, no_targets rest others.1)
 
--- after the last member of the range all are seen
-pub targets_among-end : (lifetime moment : ℕ) (group source : Ip) (rows : List Membership) (members before rest : List GroupMember) → filter (from_least group) members ≡ before ++ rest → rest ≡ []
-    → targets_among lifetime moment group source rows before ≡ targets_among lifetime moment group source rows members
-targets_among-end lifetime moment group source rows members before rest is none =
-    ap (targets_among lifetime moment group source rows) (sym (is ∙ ap (λ (more : List GroupMember). before ++ more) none ∙ append-nil before))
-    ∙ targets_among-range lifetime moment group source rows members
+  -- where none of the rest counts, all that count were seen
+  targets_among-whole : (members before rest : List GroupMember) → filter (from_least group) members ≡ before ++ rest → targets_among rest ≡ [] → targets_among before ≡ targets_among members
+  targets_among-whole members before rest is none =
+      sym (sym (targets_among-range members) ∙ ap targets_among is ∙ targets_among-append before rest ∙ ap (λ more. targets_among before ++ more) none ∙ append-nil (targets_among before))
+
+  -- from a member of another group on none counts
+  pub targets_among-stop : (members before rest : List GroupMember) (member : GroupMember) → IsAscending group_member_order members
+      → filter (from_least group) members ≡ before ++ member ∷ rest → same_group member.group group ≡ false → targets_among before ≡ targets_among members
+  targets_among-stop members before rest member ordered is other =
+      let past = others ip_order endpoint_order (λ (one : GroupMember). one.group) (λ (one : GroupMember). one.endpoint) ip_order-total (least_member group) members before rest member ordered is other in
+      targets_among-whole members before (member ∷ rest) is (ap endpoints (filter-none is_target_member (member ∷ rest) (no_targets (member ∷ rest) past)))
+
+  -- after the last member of the range all are seen
+  pub targets_among-end : (members before rest : List GroupMember) → filter (from_least group) members ≡ before ++ rest → rest ≡ [] → targets_among before ≡ targets_among members
+  targets_among-end members before rest is none = targets_among-whole members before rest is (ap targets_among none)
+
+  -- before a member that counts there is room for its endpoint, where there is for the live ones
+  pub targets_among-room : (members before rest : List GroupMember) (member : GroupMember) → AreTargets lifetime moment group source rows (targets_among members)
+      → filter (from_least group) members ≡ before ++ member ∷ rest → is_target_member member ≡ true → length (targets_among before) < live_count rows
+  targets_among-room members before rest member targets is passes =
+      let so_far = targets_among before in
+      let whole = sym (targets_among-range members) ∙ ap targets_among is ∙ targets_among-append before (member ∷ rest) in
+      let more : targets_among (member ∷ rest) ≡ member.endpoint ∷ targets_among rest = rw passes refl in
+      let long = ap (λ (all : List EndpointValue). length all) (whole ∙ ap (λ (later : List EndpointValue). so_far ++ later) more) in
+      omega (arith, long, length-append so_far (member.endpoint ∷ targets_among rest), length-targets lifetime moment group source rows (targets_among members) targets)
+
+  -- the filter of a member decides whether its membership lets a packet in
+  pub lets_in-kept : (kept : BTreeMap GroupMember StoredFilter) (member : GroupMember) (stored : StoredFilter) → AreByGroup kept rows → get group_member_order kept member ≡ Some stored → same_group member.group group ≡ true
+      → (nat_lt moment (stored.renewed + lifetime) && admits stored.filter source) ≡ lets_in member.endpoint
+  lets_in-kept kept member stored by_group found same =
+      let at = pair member.endpoint member.group in
+      let here = ap (λ (one : Ip). membership_in rows (pair member.endpoint one)) (ip_order-exact group member.group (tied group member.group same)) ∙ sym (by_group member) ∙ ap (membership_with at) found in
+      sym (ap (λ (one : Option Membership). is_some (only (is_target lifetime moment source) one)) here ∙ is_some-cond (is_target lifetime moment source (stored_membership (at, stored))) (stored_membership (at, stored)))
+
+  one_more_by : (passes : Bool) (member : GroupMember) → is_target_member member ≡ passes → targets_among (member ∷ []) ≡ cond passes (member.endpoint ∷ []) []
+  one_more_by true member is = rw is refl
+  one_more_by false member is = rw is refl
+
+  -- one member of the group more
+  pub targets_among-more : (seen : List (Bor GroupMember × Bor StoredFilter)) (item : Bor GroupMember × Bor StoredFilter) (before after : List EndpointValue) (lets : Bool) → same_group item.0.now.group group ≡ true
+      → lets_in item.0.now.endpoint ≡ lets → before ≡ targets_among (seen_members seen) → after ≡ before ++ cond lets (item.0.now.endpoint ∷ []) [] → after ≡ targets_among (seen_members (seen ++ item ∷ []))
+  targets_among-more seen item before after lets same is so_far now =
+      let member = item.0.now in
+      let more = ap keys_of (map-append deref_pair seen (item ∷ [])) ∙ map-append (λ (entry : GroupMember × StoredFilter). entry.0) (map deref_pair seen) (deref_pair item ∷ []) in
+      now ∙ ap (λ (first : List EndpointValue). first ++ cond lets (member.endpoint ∷ []) []) so_far
+      ∙ sym (ap targets_among more ∙ targets_among-append (seen_members seen) (member ∷ [])
+      ∙ ap (λ (last : List EndpointValue). targets_among (seen_members seen) ++ last) (one_more_by lets member (decided member same ∙ is)))
+
+  -- the members of a table that get a packet are the targets
+  pub AreTargets-table : (order : GroupMember → GroupMember → Ordering) (kept : BTreeMap GroupMember StoredFilter) → order ≡ group_member_order → AreByGroup kept rows → IsOrdered order kept
+      → AreTargets lifetime moment group source rows (targets_among (keys kept))
+  AreTargets-table order kept same by_group ascending =
+      AreTargets-among (keys kept) (subst (λ (by : GroupMember → GroupMember → Ordering). IsOrdered by kept) same ascending) (AreMembersOf-kept kept rows by_group)
 
 keys_by : (keeps : Bool) (entry : GroupMember × StoredFilter) (rest : List (GroupMember × StoredFilter)) (members : List GroupMember) → keys_of rest ≡ members → keys_of (cond keeps (entry ∷ rest) rest) ≡ cond keeps (entry.0 ∷ members) members
 keys_by true entry rest members is = ap (λ (more : List GroupMember). entry.0 ∷ more) is
@@ -264,11 +217,3 @@ pub next_found : (order : GroupMember → GroupMember → Ordering) (first : Gro
 next_found order first kept range start rest later seen next item same within begins yields is steps =
     ap (λ (by : GroupMember → GroupMember → Ordering). get by kept item.0.now) (sym same)
     ∙ (All-turn deref_pair (IsEntryInRange order (Included first) Unbounded kept) range seen start rest later next item within.0 begins yields is steps).1
-
--- what the members of a table give is what its memberships give
-pub targets_among-table : (lifetime moment : ℕ) (group source : Ip) (order : GroupMember → GroupMember → Ordering) (kept : BTreeMap GroupMember StoredFilter) (filters : FiltersValue) (rows : List Membership) → order ≡ group_member_order
-    → AreByGroup kept filters → AreOrdered filters → stored_memberships filters ≡ rows → IsOrdered order kept → targets_among lifetime moment group source rows (keys kept) ≡ targets_in lifetime moment group source rows
-targets_among-table lifetime moment group source order kept filters rows same by_group ordered view ascending =
-    let ascends = subst (λ (by : GroupMember → GroupMember → Ordering). IsOrdered by kept) same ascending in
-    subst (λ (all : List Membership). targets_among lifetime moment group source all (keys kept) ≡ targets_in lifetime moment group source all) view
-    (targets_among-all lifetime moment group source (stored_memberships filters) (keys kept) (IsAscending-stored filters ordered) ascends (AreMembersOf-kept kept filters by_group))

@@ -2,8 +2,8 @@
 use Rattle.std.{proofs.{Common.{◌≤◌, ◌≡◌, ℕ, ◌<◌, max, List, [], ◌∷◌, ◌++◌, reverse, filter, Some, refl, sym, ap, subst, ◌∙◌, arith}, lemmas.List.{reverse-append}}, specs.List.Sorted.{IsStrictlySortedBy}}
 use Rattle.amt_values.specs.{EndpointValue.{EndpointValue}, Ascending.{IsAscending}}
 use Rattle.source_filter.specs.declared.record.Record.{Record}
-use Rattle.endpoint_membership.specs.{declared.{change.Change.{Change, TheVariants.{Reported, Clear, Mark}}, limits.{LimitFault.{LimitFault}, Limits.{Limits}}}, Membership.{Membership, is_fresh, membership_order}, Stored.{is_of_another}, Limits.{IsWithin, first_limit}, Log.{brought, latest}, EndpointMemberships.{AreOwn}, Memberships.{memberships_at}}
-use Rattle.endpoint_membership.{specs.Table.{AreMembershipsAt, Holds, IsWithinLimits, TableValue, TableSettings, limit_passed, memberships_now}, proofs.{MembershipsByLog.{rows_are}, ReportFits.{replaced}, AfterReport.{AreMembershipsAt-reported}, AfterEntries.{AreMembershipsAt-clear, AreMembershipsAt-later, AreMembershipsAt-other}, WithinLimits.{none_passed}}}
+use Rattle.endpoint_membership.specs.{declared.{change.Change.{Change, TheVariants.{Reported, Clear, Mark}}, limits.{LimitFault.{LimitFault}, Limits.{Limits}}}, Membership.{Membership, is_fresh, membership_order}, Stored.{is_of_another}, Limits.{IsWithin}, Log.{brought, latest}, EndpointMemberships.{AreOwn}, Memberships.{memberships_at}}
+use Rattle.endpoint_membership.{specs.Table.{AreMembershipsAt, Holds, IsWithinLimits, TableValue, TableSettings, limit_passed, memberships_now}, proofs.{MembershipsByLog.{AreMembershipsAt-memberships_at, rows_are}, AfterReport.{AreAfterReport, AreAfterReport-log, AreMembershipsAt-reported}, LimitByOwn.{first_limit_is, limit_by_own}, AfterEntries.{AreMembershipsAt-clear, AreMembershipsAt-later, AreMembershipsAt-other}, WithinLimits.{none_passed}}}
 
 latest-append : (xs ys : List Change) → latest (xs ++ ys) ≡ max (latest xs) (latest ys)
 latest-append [] ys = omega arith
@@ -89,35 +89,41 @@ fresh_are settings table log at moment is holds =
 pub rows_now : (settings : TableSettings) (table : TableValue) (log : List Change) → Holds settings table log → table.rows ≡ memberships_now settings log
 rows_now settings table log holds = rows_are settings.lifetime (latest log) log table.rows holds.rows
 
-pub IsAscending-none : IsAscending membership_order []
-unfolding IsStrictlySortedBy
-IsAscending-none = tt
+module _ (settings : TableSettings) (table : TableValue) (log : List Change) (endpoint : EndpointValue) (records : List Record) (at moment : ℕ) (own : List Membership) (some : 0 < table.lifetime)
+    (is : moment ≡ max table.moment at) (owned : AreOwn table.lifetime moment endpoint records table.rows own) (holds : Holds settings table log) where
+  abbrev last : ℕ
+  last = latest (Reported endpoint records at ∷ reverse log)
 
--- a report, with the memberships that its records leave in the place of the endpoint's
-pub Holds-report : (settings : TableSettings) (table : TableValue) (log : List Change) (endpoint : EndpointValue) (records : List Record) (at moment : ℕ) (own rows : List Membership) → 0 < table.lifetime
-    → moment ≡ max table.moment at → AreOwn table.lifetime moment endpoint records table.rows own → rows ≡ replaced table.lifetime moment endpoint table.rows own
-    → Holds settings table log → Holds settings (table_of moment table.limits table.lifetime rows) (log ++ Reported endpoint records at ∷ [])
-Holds-report settings table log endpoint records at moment own rows some is owned put holds =
-    let entry = Reported endpoint records at in
-    let past = reverse log in
-    let turned = latest-reverse log in
-    let same = holds.moment in
-    let long = holds.lifetime in
-    let now : moment ≡ latest (entry ∷ past) = omega arith in
-    let owned_here = subst (λ (lifetime : ℕ). AreOwn lifetime (latest (entry ∷ past)) endpoint records table.rows own) long
-    (subst (λ (later : ℕ). AreOwn table.lifetime later endpoint records table.rows own) now owned) in
-    let put_here = put ∙ ap (λ (lifetime : ℕ). replaced lifetime moment endpoint table.rows own) long ∙ ap (λ (later : ℕ). replaced settings.lifetime later endpoint table.rows own) now in
-    held settings table log entry moment rows holds is
-    (subst (AreMembershipsAt settings.lifetime (latest (entry ∷ past)) (entry ∷ past)) (sym put_here)
-    (AreMembershipsAt-reported settings.lifetime (latest log) at endpoint records past table.rows own (omega arith) (omega arith) holds.rows owned_here))
+  last_is : moment ≡ last
+  last_is = let turned = latest-reverse log in let same = holds.moment in omega arith
 
--- the limit that a report passes is found by the memberships that there are with it
-pub passed_is : (settings : TableSettings) (table : TableValue) (log : List Change) (endpoint : EndpointValue) (records : List Record) (at : ℕ) → Holds settings table (log ++ Reported endpoint records at ∷ [])
-    → limit_passed settings log endpoint records at ≡ first_limit table.limits endpoint records table.rows
-passed_is settings table log endpoint records at holds =
-    let entries = log ++ Reported endpoint records at ∷ [] in
-    ap (first_limit settings.limits endpoint records) (sym (rows_are settings.lifetime (latest entries) entries table.rows holds.rows))
-    ∙ ap (λ (limits : Limits). first_limit limits endpoint records table.rows) (sym holds.limits)
+  -- what is said by the table's lifetime and its moment, by those of the log
+  by_log : (P : ℕ → ℕ → Type 0) → P table.lifetime moment → P settings.lifetime last
+  by_log P given = subst (λ (lifetime : ℕ). P lifetime last) holds.lifetime (subst (P table.lifetime) last_is given)
+
+  -- a report, with the memberships that its records leave in the place of the endpoint's
+  pub Holds-report : (rows : List Membership) → AreAfterReport table.lifetime moment endpoint table.rows own rows → Holds settings (table_of moment table.limits table.lifetime rows) (log ++ Reported endpoint records at ∷ [])
+  Holds-report rows put =
+      held settings table log (Reported endpoint records at) moment rows holds is
+      (AreMembershipsAt-reported settings.lifetime (latest log) at endpoint records (reverse log) table.rows own (subst (λ (lifetime : ℕ). 0 < lifetime) holds.lifetime some)
+      (let turned = latest-reverse log in omega arith) holds.rows (by_log (λ (lifetime later : ℕ). AreOwn lifetime later endpoint records table.rows own) owned) rows
+      (by_log (λ (lifetime later : ℕ). AreAfterReport lifetime later endpoint table.rows own rows) put))
+
+  -- the limit that a report passes is found by the memberships of its endpoint
+  pub passed_is : IsAscending membership_order table.rows → limit_passed settings log endpoint records at ≡ limit_by_own table.lifetime moment table.limits endpoint records table.rows own
+  passed_is ascends =
+      let entry = Reported endpoint records at in
+      let rows = memberships_now settings (log ++ entry ∷ []) in
+      let later = latest-push log entry in
+      let turned = latest-reverse log in
+      let whole : latest (log ++ entry ∷ []) ≡ last = omega arith in
+      let stand = subst (λ (past : List Change). AreMembershipsAt settings.lifetime last past rows) (reverse-push log entry)
+      (subst (λ (moment : ℕ). AreMembershipsAt settings.lifetime moment (reverse (log ++ entry ∷ [])) rows) whole (AreMembershipsAt-memberships_at settings.lifetime (latest (log ++ entry ∷ [])) (log ++ entry ∷ []))) in
+      let put = AreAfterReport-log settings.lifetime (latest log) at endpoint records (reverse log) table.rows own (subst (λ (lifetime : ℕ). 0 < lifetime) holds.lifetime some) (omega arith) holds.rows
+      (by_log (λ (lifetime later : ℕ). AreOwn lifetime later endpoint records table.rows own) owned) rows stand in
+      first_limit_is settings.lifetime last settings.limits endpoint records table.rows own rows ascends owned.ascends owned.of put
+      ∙ sym (by_log (λ (lifetime later : ℕ). limit_by_own table.lifetime moment table.limits endpoint records table.rows own ≡ limit_by_own lifetime later settings.limits endpoint records table.rows own)
+      (ap (λ (limits : Limits). limit_by_own table.lifetime moment limits endpoint records table.rows own) holds.limits))
 
 -- what a table keeps within its limits is within them by the log
 pub IsWithin-log : (settings : TableSettings) (table : TableValue) (log : List Change) → Holds settings table log → IsWithinLimits table → IsWithin settings.limits (memberships_now settings log)

@@ -1,7 +1,7 @@
 -- Keys of two parts, ordered by the first and then by the second: those that share their first part
 -- stand together, from the least of them on.
-use Rattle.std.proofs.{Common.{◌≡◌, ℕ, ◌==◌, nat_lt, arith, Some, None, Bool, true, false, not, cond, List, [], ◌∷◌, ◌++◌, filter, refl, sym, ap, subst, ◌∙◌}, lemmas.{Bool.{and_from, and_parts, Decides.{nat_tests}}, Cmp.{alike_right, eq_by_cmp_equiv}, List.Kept.{IsStrictlySortedBy-filter}, Map.Keys.{sorted_head, sorted_tail}}}
-use Rattle.std.specs.{BTreeMap.Range.{range_contains}, Cmp.{IsTotalOrder}, List.{AllByRecursion, find, Sorted.{IsStrictlySortedBy}}, Ordering.{eq_by_cmp, is_eq, is_le, nat_cmp, on, ordering_then, then_cmp}, declared.{cmp.Ordering.{Ordering, TheVariants.{Less, Equal, Greater}}, ops.Bound.TheVariants.{Included, Unbounded}}}
+use Rattle.std.proofs.{Common.{◌≡◌, ℕ, ◌==◌, nat_lt, arith, Bool, true, false, not, cond, List, [], ◌∷◌, ◌++◌, filter, refl, sym, ap, subst, ◌∙◌}, lemmas.{Bool.{and_from, and_parts, Decides.{nat_tests}}, Cmp.{alike_right, eq_by_cmp_equiv}, List.Kept.{IsStrictlySortedBy-filter}, Map.Keys.{sorted_head, sorted_tail}}}
+use Rattle.std.specs.{BTreeMap.Range.{range_contains}, Cmp.{IsTotalOrder}, List.{AllByRecursion, Sorted.{IsStrictlySortedBy}}, Ordering.{eq_by_cmp, is_eq, is_le, nat_cmp, on, ordering_then, then_cmp}, declared.{cmp.Ordering.{Ordering, TheVariants.{Less, Equal, Greater}}, ops.Bound.TheVariants.{Included, Unbounded}}}
 use Rattle.amt_values.proofs.AscendingLaws.{Equal-from_test}
 
 kept_by : {K : Type 0} (test wider : K → Bool) (passes kept : Bool) (x : K) (xs : List K) → test x ≡ passes → (passes ≡ true → kept ≡ true) → filter test (filter wider xs) ≡ filter test xs
@@ -21,30 +21,14 @@ pub filter-none : {K : Type 0} (test : K → Bool) (xs : List K) → AllByRecurs
 filter-none test [] none = refl
 filter-none test (x ∷ xs) none = rw none.0 (filter-none test xs none.1)
 
-found_by : {K : Type 0} (test wider : K → Bool) (passes kept : Bool) (x : K) (xs : List K) → test x ≡ passes → (passes ≡ true → kept ≡ true) → find test (filter wider xs) ≡ find test xs
-    → find test (cond kept (x ∷ filter wider xs) (filter wider xs)) ≡ cond passes (Some x) (find test xs)
-found_by test wider true true x xs is within rest = rw is refl
-found_by test wider true false x xs is within rest = let never = within refl in cc
-found_by test wider false true x xs is within rest = rw is rest
-found_by test wider false false x xs is within rest = rest
+passing_by : {K : Type 0} (P : K → Type 0) (passes : Bool) (x : K) (xs : List K) → (passes ≡ true → P x) → AllByRecursion P xs → AllByRecursion P (cond passes (x ∷ xs) xs)
+passing_by P true x xs here rest = (here refl, rest)
+passing_by P false x xs here rest = rest
 
--- a search finds the same where a wider test went before
-pub find-wider : {K : Type 0} (test wider : K → Bool) → ((x : K) → test x ≡ true → wider x ≡ true) → (xs : List K) → find test (filter wider xs) ≡ find test xs
-find-wider test wider within [] = refl
-find-wider test wider within (x ∷ xs) = found_by test wider (test x) (wider x) x xs refl (within x) (find-wider test wider within xs)
-
--- a search finds nothing where nothing passes
-pub find-none : {K : Type 0} (test : K → Bool) (xs : List K) → AllByRecursion (λ x. test x ≡ false) xs → find test xs ≡ None
-find-none test [] none = refl
-find-none test (x ∷ xs) none = rw none.0 (find-none test xs none.1)
-
-passes_by : {K : Type 0} (test : K → Bool) (passes : Bool) (x : K) (xs : List K) → test x ≡ passes → AllByRecursion (λ y. test y ≡ true) xs → AllByRecursion (λ y. test y ≡ true) (cond passes (x ∷ xs) xs)
-passes_by test true x xs is rest = (is, rest)
-passes_by test false x xs is rest = rest
-
-filter_passes : {K : Type 0} (test : K → Bool) (xs : List K) → AllByRecursion (λ y. test y ≡ true) (filter test xs)
-filter_passes test [] = tt
-filter_passes test (x ∷ xs) = passes_by test (test x) x (filter test xs) refl (filter_passes test xs)
+-- what follows from a test holds of all that pass it
+pub All-passing : {K : Type 0} (P : K → Type 0) (test : K → Bool) → ((x : K) → test x ≡ true → P x) → (xs : List K) → AllByRecursion P (filter test xs)
+All-passing P test follows [] = tt
+All-passing P test follows (x ∷ xs) = passing_by P (test x) x (filter test xs) (follows x) (All-passing P test follows xs)
 
 pub all_back : {K : Type 0} (P : K → Type 0) (xs ys : List K) → AllByRecursion P (xs ++ ys) → AllByRecursion P ys
 all_back P [] ys all = all
@@ -118,7 +102,7 @@ module _ {K A B : Type 0} (first : A → A → Ordering) (second : B → B → O
         → AllByRecursion (λ next. shares next ≡ false) (key ∷ rest)
     others keys before rest key sorted is other =
         let within = range_contains by_parts (Included least) Unbounded in
-        let inside = all_back (λ (one : K). within one ≡ true) before (key ∷ rest) (subst (AllByRecursion (λ (one : K). within one ≡ true)) is (filter_passes within keys)) in
+        let inside = all_back (λ (one : K). within one ≡ true) before (key ∷ rest) (subst (AllByRecursion (λ (one : K). within one ≡ true)) is (All-passing (λ (one : K). within one ≡ true) within (λ one passes. passes) keys)) in
         let ascending = sorted_back by_parts before (key ∷ rest) (subst (IsStrictlySortedBy by_parts) is (IsStrictlySortedBy-filter by_parts within keys sorted)) in
         let past = past_by (first (outer least) (outer key)) (second (inner least) (inner key)) (and_parts (is_le (by_parts least key)) true inside.0).0 (turned key ∙ other) in
         (other, apart_each key rest past (sorted_head by_parts key rest ascending))

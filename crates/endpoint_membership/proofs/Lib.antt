@@ -5,7 +5,6 @@ pub mod Clearings
 pub mod CountedLive
 pub mod CountedParts
 pub mod CountedRows
-pub mod Drained
 pub mod EndpointGroupOrder
 pub mod EndpointRange
 pub mod EnoughRecords
@@ -36,8 +35,7 @@ pub mod ReplacedFilters
 pub mod ReportBounds
 pub mod ReportFits
 pub mod RowsAdmit
+pub mod SetAt
 pub mod SetTogether
-pub mod StoredView
 pub mod TargetsByLog
-pub mod ThreeParts
 pub mod WithinLimits

@@ -1,8 +1,13 @@
 -- Counting live endpoints from membership to membership.
-use Rattle.std.proofs.{Common.{◌≡◌, ℕ, ◌+◌, Bool, true, false, ◌||◌, if◌then◌else◌, List, [], ◌∷◌, ◌++◌, filter, length, Option, Some, None, refl, sym, ap, subst, ◌∙◌, arith}, lemmas.{Cmp.{tied_itself}, List.{map-append}}}
+use Rattle.std.proofs.{Common.{◌≡◌, ℕ, ◌+◌, Bool, true, false, ◌||◌, if◌then◌else◌, List, [], ◌∷◌, ◌++◌, filter, length, Option, Some, None, refl, sym, ap, subst, ◌∙◌, arith}, lemmas.{Bool.{or_left, or_right}, Cmp.{tied_itself}, List.{map-append}}}
 use Rattle.std.{proofs.lemmas.{List.Elements.{filter-append}, Map.Keys.{sorted_head, sorted_tail}}, specs.{List.{AllByRecursion}, Option.{option_or}, Ordering.{is_eq, ordering_then}, declared.cmp.Ordering.{Ordering, TheVariants.{Less, Equal, Greater}}}}
-use Rattle.amt_values.{specs.{Order.{ip_order, endpoint_order}, EndpointValue.{EndpointValue}, Ascending.{IsAscending, has, placed, ascending}}, proofs.{Orders.{endpoint_order-exact, endpoint_order-total}, AscendingLaws.{IsAscending-filter, IsAscending-placed, IsAscending-ascending, has-append, has-placed, has-ascending, same_ascending}}}
-use Rattle.endpoint_membership.{specs.{Membership.{Membership, membership_order}, Stored.{ends_with, last_of}, Limits.{live_count}, EndpointGroup.{same_endpoint}}, proofs.{LimitByOwn.{endpoints_of, length-placed_new}, AfterEntries.{same_back, same_endpoint-exact}}}
+use Rattle.amt_values.{specs.{Order.{ip_order, endpoint_order}, EndpointValue.{EndpointValue}, Ascending.{IsAscending, has}}, proofs.{Orders.{endpoint_order-exact, endpoint_order-total}, AscendingLaws.{IsAscending-filter, has-append}}}
+use Rattle.endpoint_membership.{specs.{Membership.{Membership, membership_order}, Stored.{ends_with}, Limits.{live_count}, EndpointGroup.{same_endpoint}}, proofs.{CountedLive.{count-more, endpoints_of, known}, AfterEntries.{same_back, same_endpoint-exact}}}
+
+-- the endpoint of the last one
+abbrev pub last_of : List Membership → Option EndpointValue
+last_of [] = None
+last_of (membership ∷ rest) = option_or (last_of rest) (Some membership.endpoint)
 
 pub last_of-push : (rows : List Membership) (membership : Membership) → last_of (rows ++ membership ∷ []) ≡ Some membership.endpoint
 last_of-push [] membership = refl
@@ -25,61 +30,32 @@ pub last_in : (P : Membership → Type 0) (rows : List Membership) (membership :
 last_in P [] membership each = each.0
 last_in P (first ∷ rows) membership each = last_in P rows membership each.1
 
-ends_same : (last : Option EndpointValue) (first endpoint : EndpointValue) → ends_with last endpoint ≡ true → ends_with (option_or last (Some first)) endpoint ≡ true
-ends_same None first endpoint ends = cc
-ends_same (Some last) first endpoint ends = ends
+ends_more : (last : Option EndpointValue) (second first endpoint : EndpointValue) → ends_with (option_or (option_or last (Some second)) (Some first)) endpoint ≡ ends_with (option_or last (Some second)) endpoint
+ends_more None second first endpoint = refl
+ends_more (Some last) second first endpoint = refl
 
-either_true : (a b : Bool) → (a || b) ≡ true → (a ≡ false → b ≡ true)
-either_true true b either = λ no. cc
-either_true false b either = λ no. either
-
-seen_last_by : (here : Bool) (first membership : Membership) (rows : List Membership) → same_endpoint membership.endpoint first.endpoint ≡ here
-    → IsAscending membership_order (first ∷ (rows ++ membership ∷ [])) → has endpoint_order (endpoints_of (first ∷ rows)) membership.endpoint ≡ true
-    → (has endpoint_order (endpoints_of rows) membership.endpoint ≡ true → ends_with (last_of rows) membership.endpoint ≡ true) → ends_with (last_of (first ∷ rows)) membership.endpoint ≡ true
-seen_last_by false first membership rows is ascends seen onward =
-    ends_same (last_of rows) first.endpoint membership.endpoint (onward (either_true (same_endpoint membership.endpoint first.endpoint) (has endpoint_order (endpoints_of rows) membership.endpoint) seen is))
-seen_last_by true first membership [] is ascends seen onward = same_back first.endpoint membership.endpoint ∙ is
-seen_last_by true first membership (second ∷ rows) is ascends seen onward =
-    let after = sorted_head membership_order first (second ∷ rows ++ membership ∷ []) ascends in
-    let before = last_in (λ (later : Membership). membership_order second later ≡ Less) rows membership (sorted_head membership_order second (rows ++ membership ∷ []) (sorted_tail membership_order first (second ∷ rows ++ membership ∷ []) ascends)) in
-    let same = between_by (endpoint_order first.endpoint second.endpoint) (endpoint_order second.endpoint membership.endpoint) first second membership refl refl after.0 before
-    (sym (same_endpoint-exact membership.endpoint first.endpoint is)) in
-    let here : same_endpoint membership.endpoint second.endpoint ≡ true = ap (same_endpoint membership.endpoint) same ∙ ap is_eq (tied_itself endpoint_order-total membership.endpoint) in
-    ends_same (last_of (second ∷ rows)) first.endpoint membership.endpoint (onward (rw here refl))
+or_false : (a : Bool) → (a || false) ≡ a
+or_false true = refl
+or_false false = refl
 
 -- an endpoint that was seen is that of the last membership
-seen_last : (rows : List Membership) (membership : Membership) → IsAscending membership_order (rows ++ membership ∷ []) → has endpoint_order (endpoints_of rows) membership.endpoint ≡ true → ends_with (last_of rows) membership.endpoint ≡ true
-seen_last [] membership ascends seen = cc
-seen_last (first ∷ rows) membership ascends seen =
-    seen_last_by (same_endpoint membership.endpoint first.endpoint) first membership rows refl ascends seen (seen_last rows membership (sorted_tail membership_order first (rows ++ membership ∷ []) ascends))
-
-or_true : (a : Bool) → (a || true) ≡ true
-or_true true = refl
-or_true false = refl
-
-last_seen_by : (last : Option EndpointValue) (first endpoint : EndpointValue) (more : Bool) → (ends_with last endpoint ≡ true → more ≡ true) → ends_with (option_or last (Some first)) endpoint ≡ true
-    → (same_endpoint endpoint first || more) ≡ true
-last_seen_by None first endpoint more onward ends = rw (same_back endpoint first, ends) refl
-last_seen_by (Some last) first endpoint more onward ends = rw (onward ends) (or_true (same_endpoint endpoint first))
-
--- the endpoint of the last membership was seen
-last_seen : (rows : List Membership) (endpoint : EndpointValue) → ends_with (last_of rows) endpoint ≡ true → has endpoint_order (endpoints_of rows) endpoint ≡ true
-last_seen [] endpoint ends = cc
-last_seen (first ∷ rows) endpoint ends = last_seen_by (last_of rows) first.endpoint endpoint (has endpoint_order (endpoints_of rows) endpoint) (last_seen rows endpoint) ends
-
-same_test : (a b : Bool) → (a ≡ true → b ≡ true) → (b ≡ true → a ≡ true) → a ≡ b
-same_test true b onward back = sym (onward refl)
-same_test false true onward back = back refl
-same_test false false onward back = refl
+seen_last : (rows : List Membership) (membership : Membership) → IsAscending membership_order (rows ++ membership ∷ []) → has endpoint_order (endpoints_of rows) membership.endpoint ≡ ends_with (last_of rows) membership.endpoint
+seen_last [] membership ascends = refl
+seen_last (first ∷ []) membership ascends = or_false (same_endpoint membership.endpoint first.endpoint) ∙ same_back membership.endpoint first.endpoint
+seen_last (first ∷ second ∷ rows) membership ascends =
+    let later = sorted_tail membership_order first (second ∷ rows ++ membership ∷ []) ascends in
+    let after = sorted_head membership_order first (second ∷ rows ++ membership ∷ []) ascends in
+    let before = last_in (λ (one : Membership). membership_order second one ≡ Less) rows membership (sorted_head membership_order second (rows ++ membership ∷ []) later) in
+    known (same_endpoint membership.endpoint first.endpoint) (has endpoint_order (endpoints_of (second ∷ rows)) membership.endpoint)
+    (λ here. or_left (same_endpoint membership.endpoint second.endpoint) (has endpoint_order (endpoints_of rows) membership.endpoint) (ap (same_endpoint membership.endpoint)
+    (between_by (endpoint_order first.endpoint second.endpoint) (endpoint_order second.endpoint membership.endpoint) first second membership refl refl after.0 before (sym (same_endpoint-exact membership.endpoint first.endpoint here)))
+    ∙ ap is_eq (tied_itself endpoint_order-total membership.endpoint)))
+    ∙ seen_last (second ∷ rows) membership later ∙ sym (ends_more (last_of rows) second.endpoint first.endpoint membership.endpoint)
 
 moved : (a b : Bool) → (a || (b || false)) ≡ (b || a)
-moved true b = sym (or_true b)
+moved true b = sym (or_right b true refl)
 moved false true = refl
 moved false false = refl
-
-known : (a b : Bool) → (a ≡ true → b ≡ true) → (a || b) ≡ b
-known true b given = sym (given refl)
-known false b given = refl
 
 members : (rows : List Membership) (membership : Membership) (one : EndpointValue) → has endpoint_order (endpoints_of (rows ++ membership ∷ [])) one ≡ (same_endpoint one membership.endpoint || has endpoint_order (endpoints_of rows) one)
 members rows membership one =
@@ -87,35 +63,13 @@ members rows membership one =
     ∙ has-append endpoint_order (endpoints_of rows) (membership.endpoint ∷ []) one
     ∙ moved (has endpoint_order (endpoints_of rows) one) (same_endpoint one membership.endpoint)
 
-counted_by : (seen : Bool) (rows : List Membership) (membership : Membership) → has endpoint_order (endpoints_of rows) membership.endpoint ≡ seen
-    → live_count (rows ++ membership ∷ []) ≡ live_count rows + (if seen then 0 else 1)
-counted_by true rows membership seen =
-    let all = endpoints_of (rows ++ membership ∷ []) in
-    let some = endpoints_of rows in
-    let same = same_ascending endpoint_order-total endpoint_order-exact (ascending endpoint_order all) (ascending endpoint_order some) (IsAscending-ascending endpoint_order-total all) (IsAscending-ascending endpoint_order-total some)
-    (λ one. has-ascending endpoint_order-total all one ∙ members rows membership one
-    ∙ known (same_endpoint one membership.endpoint) (has endpoint_order some one) (λ here. ap (has endpoint_order some) (same_endpoint-exact one membership.endpoint here) ∙ seen)
-    ∙ sym (has-ascending endpoint_order-total some one)) in
-    let whole = ap (λ (tunnels : List EndpointValue). length tunnels) same in
-    omega (arith, whole)
-counted_by false rows membership seen =
-    let all = endpoints_of (rows ++ membership ∷ []) in
-    let some = endpoints_of rows in
-    let same = same_ascending endpoint_order-total endpoint_order-exact (ascending endpoint_order all) (placed endpoint_order membership.endpoint (ascending endpoint_order some))
-    (IsAscending-ascending endpoint_order-total all) (IsAscending-placed endpoint_order-total membership.endpoint (ascending endpoint_order some) (IsAscending-ascending endpoint_order-total some))
-    (λ one. has-ascending endpoint_order-total all one ∙ members rows membership one
-    ∙ sym (has-placed endpoint_order-total membership.endpoint (ascending endpoint_order some) one
-    ∙ ap (λ (test : Bool). same_endpoint one membership.endpoint || test) (has-ascending endpoint_order-total some one))) in
-    let whole = ap (λ (tunnels : List EndpointValue). length tunnels) same in
-    let longer = length-placed_new membership.endpoint (ascending endpoint_order some) (has-ascending endpoint_order-total some membership.endpoint ∙ seen) in
-    omega (arith, whole, longer)
-
 -- one more membership makes one more live endpoint, unless the last membership is of the same endpoint
 pub live_count-push : (rows : List Membership) (membership : Membership) → IsAscending membership_order (rows ++ membership ∷ [])
     → live_count (rows ++ membership ∷ []) ≡ live_count rows + (if ends_with (last_of rows) membership.endpoint then 0 else 1)
 live_count-push rows membership ascends =
-    counted_by (ends_with (last_of rows) membership.endpoint) rows membership
-    (same_test (has endpoint_order (endpoints_of rows) membership.endpoint) (ends_with (last_of rows) membership.endpoint) (seen_last rows membership ascends) (last_seen rows membership.endpoint))
+    count-more (ends_with (last_of rows) membership.endpoint) (endpoints_of (rows ++ membership ∷ [])) (endpoints_of rows) membership.endpoint
+    (seen_last rows membership ascends)
+    (members rows membership)
 
 pub filter-push_yes : (test : Membership → Bool) (rows : List Membership) (membership : Membership) → test membership ≡ true → filter test (rows ++ membership ∷ []) ≡ filter test rows ++ membership ∷ []
 filter-push_yes test rows membership passes = filter-append test rows (membership ∷ []) ∙ rw passes refl

@@ -1,13 +1,9 @@
 -- The list of memberships by the log has exactly the membership of each pair.
-use Rattle.std.{proofs.{Common.{◌≡◌, ℕ, ◌+◌, Bool, true, false, cond, ltb, not, ◌&&◌, ◌||◌, List, [], ◌∷◌, ◌++◌, reverse, Option, Some, None, unwrap_or, refl, sym, ap, ◌∙◌, inl, inr}, lemmas.Bool.{cases_Bool}}, specs.{List.{AllByRecursion, cons_option, filter_map, Sorted.{IsStrictlySortedBy}}, Option.{option_or}, declared.cmp.Ordering.TheVariants.{Less}}}
+use Rattle.std.{proofs.{Common.{◌≡◌, ℕ, ◌+◌, Bool, true, false, cond, ltb, not, ◌&&◌, ◌||◌, List, [], ◌∷◌, ◌++◌, reverse, Option, Some, None, unwrap_or, refl, sym, ap, ◌∙◌, inl, inr}, lemmas.Bool.{cases_Bool, or_parts}}, specs.{List.{AllByRecursion, cons_option, filter_map, Sorted.{IsStrictlySortedBy}}, Option.{option_or}, declared.cmp.Ordering.TheVariants.{Less}}}
 use Rattle.amt_values.{specs.{EndpointValue.{EndpointValue}, Ascending.{IsAscending, has, ascending}}, proofs.AscendingLaws.{IsAscending-ascending, has-append, has-ascending}}
 use Rattle.source_filter.specs.{Filter.{FilterValue, nothing}, declared.record.Record.{Record}}
 use Rattle.endpoint_membership.specs.{declared.change.Change.{Change, TheVariants.{Reported, Clear, Mark}}, Membership.{Membership, membership_order, endpoint_group_of}, Log.{is_empty, latest, leaving, live_chain, on_group, records_at, renewed_at}, EndpointGroup.{EndpointGroup, endpoint_group_order, same_endpoint, same_group, same_endpoint_group}}
-use Rattle.endpoint_membership.{specs.{Memberships.{membership_of, endpoint_groups_in, endpoint_groups_of, membership_in, membership_at, memberships_at}, Table.{AreMembershipsAt}}, proofs.{MembershipIn.{AreAfter, same_endpoint_group-exact, same_rows}, EndpointGroupOrder.{endpoint_group_order-total, same_endpoint_group-is}, MembershipAt.{membership_at-is}, FilterByRecords.{filter_by_records}}}
-
--- what a function of pairs gives is a membership of the pair
-abbrev pub GivesItsEndpointGroup : (EndpointGroup → Option Membership) → Type 0
-GivesItsEndpointGroup given = (endpoint_group : EndpointGroup) (membership : Membership) → given endpoint_group ≡ Some membership → endpoint_group_of membership ≡ endpoint_group
+use Rattle.endpoint_membership.{specs.{Memberships.{membership_of, endpoint_groups_in, endpoint_groups_of, membership_in, membership_at, memberships_at}, Table.{AreMembershipsAt}}, proofs.{MembershipIn.{AreAfter, GivesItsEndpointGroup, same_endpoint_group-exact, same_rows}, EndpointGroupOrder.{endpoint_group_order-total, same_endpoint_group-is}, MembershipAt.{membership_at-is}, FilterByRecords.{filter_by_records}}}
 
 pub membership_by : (test : Bool) (one other : Membership) → cond test (Some one) None ≡ Some other → one ≡ other
 membership_by true one other same = ap (λ (found : Option Membership). unwrap_or found one) same
@@ -74,15 +70,12 @@ IsAscending-filter_map given its [] ascends = tt
 IsAscending-filter_map given its (at ∷ endpoint_groups) ascends =
     IsAscending-cons_option at (given at) (filter_map given endpoint_groups) (its at) (AreAfter-filter_map given its at endpoint_groups ascends.0) (IsAscending-filter_map given its endpoint_groups ascends.1)
 
-either_part : (a b : Bool) → (a || b) ≡ false → (a ≡ false) × (b ≡ false)
-either_part true b none = cc
-either_part false b none = (refl, none)
-
-on_group-none : (endpoint : EndpointValue) (records : List Record) (endpoint_group : EndpointGroup) → same_endpoint endpoint_group.endpoint endpoint ≡ true → has endpoint_group_order (endpoint_groups_of endpoint records) endpoint_group ≡ false
+-- no record is on the group of a pair that none names
+pub on_group-none : (endpoint : EndpointValue) (records : List Record) (endpoint_group : EndpointGroup) → same_endpoint endpoint_group.endpoint endpoint ≡ true → has endpoint_group_order (endpoint_groups_of endpoint records) endpoint_group ≡ false
     → on_group endpoint_group.group records ≡ []
 on_group-none endpoint [] endpoint_group same none = refl
 on_group-none endpoint (first ∷ later) endpoint_group same none =
-    let both = either_part _ _ none in
+    let both = or_parts _ _ none in
     let apart : same_group endpoint_group.group first.group ≡ false =
     ap (λ (test : Bool). test && same_group endpoint_group.group first.group) (sym same) ∙ sym (same_endpoint_group-is endpoint_group (record { endpoint = endpoint; group = first.group })) ∙ both.0 in
     rw apart (on_group-none endpoint later endpoint_group same both.1)
@@ -104,7 +97,7 @@ cleared_by false fresh endpoint_group chained other none = none
 unnamed : (lifetime moment : ℕ) (past : List Change) (endpoint_group : EndpointGroup) → has endpoint_group_order (endpoint_groups_in past) endpoint_group ≡ false → filter_by_records (live_chain lifetime endpoint_group moment past) ≡ nothing
 unnamed lifetime moment [] endpoint_group none = refl
 unnamed lifetime moment (Reported endpoint records at ∷ older) endpoint_group none =
-    let both = either_part (has endpoint_group_order (endpoint_groups_of endpoint records) endpoint_group) (has endpoint_group_order (endpoint_groups_in older) endpoint_group)
+    let both = or_parts (has endpoint_group_order (endpoint_groups_of endpoint records) endpoint_group) (has endpoint_group_order (endpoint_groups_in older) endpoint_group)
     (sym (has-append endpoint_group_order (endpoint_groups_of endpoint records) (endpoint_groups_in older) endpoint_group) ∙ none) in
     rw (records_at-none endpoint records at endpoint_group both.0) (unnamed lifetime moment older endpoint_group both.1)
 unnamed lifetime moment (Clear endpoint at ∷ older) endpoint_group none =

@@ -1,10 +1,10 @@
 -- Memberships that are found one after another, by the pairs of filters in their order.
-use Rattle.std.proofs.{Common.{◌≡◌, ℕ, ◌+◌, Bor, Bool, true, false, cond, is_some, List, [], ◌∷◌, ◌++◌, map, filter, Option, Some, None, unwrap_or, if◌then◌else◌, refl, sym, ap, subst, append_assoc, ◌∙◌}, lemmas.List.{append-nil, map-append}}
-use Rattle.std.{proofs.lemmas.{List.Elements.{filter-append, filter_map-append}, Map.{Iter.{rest_so_far}, Made.{is_some-lookup}}}, specs.{List.{cons_option, filter_map}, BTreeMap.{is_at}, Iterator.{Yields}, Map.Iter.{TakesFirst, deref}}}
-use Rattle.amt_values.specs.{EndpointValue.{EndpointValue}, Ascending.{IsAscending, has}}
-use Rattle.endpoint_membership.specs.{EndpointGroup.{EndpointGroup, endpoint_group_order, same_endpoint_group}, Filters.{AreOrdered, FiltersValue, filter_at, pairs_of}, Limits.{live_count}, Membership.{Membership, endpoint_group_of, membership_order}}
-use Rattle.endpoint_membership.{specs.{Memberships.{membership_in, row_of}, Parts.{stored_memberships}, Stored.{ends_with, last_of, only}, declared.{row.Row.{Row}, stored.StoredFilter.{StoredFilter}}}, proofs.AfterEntries.{IsAscending-prefix}}
-use Rattle.endpoint_membership.proofs.{LiveEndpoints.{filter-push_yes, last_of-push, more_live}, MembershipIn.{same_endpoint_group-exact, same_rows}, MembershipsByLog.{GivesItsEndpointGroup, IsAscending-filter_map, membership_in-filter_map}, StoredView.{IsAscending-stored, membership_in-stored, membership_with}}
+use Rattle.std.proofs.{Common.{◌≡◌, ℕ, ◌+◌, Bor, Bool, true, false, cond, is_some, List, [], ◌∷◌, ◌++◌, map, filter, Option, Some, None, if◌then◌else◌, refl, sym, ap, subst, append_assoc, ◌∙◌}, lemmas.List.{append-nil, map-append}}
+use Rattle.std.{proofs.lemmas.{List.Elements.{filter-append, filter_map-append}, Map.Iter.{rest_so_far}}, specs.{List.{cons_option, filter_map}, Iterator.{Yields}, Map.Iter.{TakesFirst, deref}}}
+use Rattle.amt_values.specs.{EndpointValue.{EndpointValue}, Ascending.{IsAscending}}
+use Rattle.endpoint_membership.specs.{EndpointGroup.{EndpointGroup}, Filters.{membership_with}, Limits.{live_count}, Membership.{Membership, endpoint_group_of, membership_order}}
+use Rattle.endpoint_membership.{specs.{Memberships.{membership_in, row_of}, Stored.{ends_with, only}, declared.{row.Row.{Row}, stored.StoredFilter.{StoredFilter}}}, proofs.AfterEntries.{IsAscending-prefix}}
+use Rattle.endpoint_membership.proofs.{LiveEndpoints.{filter-push_yes, last_of, last_of-push, more_live}, MembershipIn.{GivesItsEndpointGroup-membership_in, all_found}}
 
 -- the memberships of these pairs
 abbrev pub memberships_of : List Membership → List EndpointGroup → List Membership
@@ -14,43 +14,9 @@ memberships_of rows pairs = filter_map (membership_in rows) pairs
 abbrev pub seen_memberships : List Membership → List (Bor EndpointGroup) → List Membership
 seen_memberships rows seen = memberships_of rows (map deref seen)
 
-its_by : (here : Bool) (at : EndpointGroup) (one other : Membership) (later : Option Membership) → (here ≡ true → at ≡ endpoint_group_of one) → cond here (Some one) later ≡ Some other
-    → (later ≡ Some other → endpoint_group_of other ≡ at) → endpoint_group_of other ≡ at
-its_by true at one other later same is rest = ap (λ (found : Option Membership). endpoint_group_of (unwrap_or found one)) (sym is) ∙ sym (same refl)
-its_by false at one other later same is rest = rest is
-
--- what is found of a pair is of the pair
-pub GivesItsEndpointGroup-membership_in : (rows : List Membership) → GivesItsEndpointGroup (membership_in rows)
-GivesItsEndpointGroup-membership_in [] at membership is = cc
-GivesItsEndpointGroup-membership_in (first ∷ rest) at membership is =
-    its_by (same_endpoint_group at (endpoint_group_of first)) at first membership (membership_in rest at) (same_endpoint_group-exact at (endpoint_group_of first)) is (GivesItsEndpointGroup-membership_in rest at membership)
-
-some_with : (at : EndpointGroup) (found : Option StoredFilter) → is_some (membership_with at found) ≡ is_some found
-some_with at None = refl
-some_with at (Some stored) = refl
-
--- the pairs of filters are those of the memberships
-pub has-pairs_of : (filters : FiltersValue) (rows : List Membership) (at : EndpointGroup) → stored_memberships filters ≡ rows → has endpoint_group_order (pairs_of filters) at ≡ is_some (membership_in rows at)
-has-pairs_of filters rows at view =
-    sym (is_some-lookup (is_at (endpoint_group_order at)) filters.entries) ∙ sym (some_with at (filter_at filters at)) ∙ ap is_some (sym (membership_in-stored filters at))
-    ∙ ap (λ (all : List Membership). is_some (membership_in all at)) view
-
-where_some : (found : Option Membership) → cond (is_some found) found None ≡ found
-where_some None = refl
-where_some (Some membership) = refl
-
--- the memberships of all pairs are all memberships
-pub memberships_of-all : (filters : FiltersValue) (rows : List Membership) → AreOrdered filters → stored_memberships filters ≡ rows → memberships_of rows (pairs_of filters) ≡ rows
-memberships_of-all filters rows ordered view =
-    let its = GivesItsEndpointGroup-membership_in rows in
-    same_rows (memberships_of rows (pairs_of filters)) rows (IsAscending-filter_map (membership_in rows) its (pairs_of filters) ordered) (subst (IsAscending membership_order) view (IsAscending-stored filters ordered))
-    (λ at. membership_in-filter_map (membership_in rows) its (pairs_of filters) at
-    ∙ ap (λ (there : Bool). cond there (membership_in rows at) None) (has-pairs_of filters rows at view) ∙ where_some (membership_in rows at))
-
 -- the membership of a pair is what a search of the filters found
-pub stored_at : (filters : FiltersValue) (rows : List Membership) (at : EndpointGroup) (found : Option StoredFilter) → stored_memberships filters ≡ rows → found ≡ filter_at filters at → membership_in rows at ≡ membership_with at found
-stored_at filters rows at found view is =
-    ap (λ (all : List Membership). membership_in all at) (sym view) ∙ membership_in-stored filters at ∙ ap (membership_with at) (sym is)
+pub stored_at : (filters rows : List Membership) (at : EndpointGroup) (found : Option StoredFilter) → filters ≡ rows → membership_with at found ≡ membership_in filters at → membership_in rows at ≡ membership_with at found
+stored_at filters rows at found view is = ap (λ (all : List Membership). membership_in all at) (sym view) ∙ sym is
 
 -- one pair more
 pub seen-push : (rows : List Membership) (seen : List (Bor EndpointGroup)) (at : Bor EndpointGroup) (found : Option Membership) → membership_in rows at.now ≡ found
@@ -68,11 +34,11 @@ pub pairs_walked : (pairs keys start rest : List EndpointGroup) (seen : List (Bo
 pairs_walked pairs keys start rest seen same begins yields = sym (begins ∙ same) ∙ rest_so_far deref seen start rest yields
 
 -- after the last pair all memberships are seen
-pub all_seen : (filters : FiltersValue) (rows : List Membership) (keys start rest : List EndpointGroup) (seen : List (Bor EndpointGroup)) → AreOrdered filters → stored_memberships filters ≡ rows → keys ≡ pairs_of filters
+pub all_seen : (rows : List Membership) (keys start rest : List EndpointGroup) (seen : List (Bor EndpointGroup)) → IsAscending membership_order rows → keys ≡ map endpoint_group_of rows
     → start ≡ keys → Yields (TakesFirst deref) start seen rest → rest ≡ [] → seen_memberships rows seen ≡ rows
-all_seen filters rows keys start rest seen ordered view same begins yields none =
-    let whole = pairs_walked (pairs_of filters) keys start rest seen same begins yields in
-    sym (ap (memberships_of rows) (whole ∙ ap (λ (more : List EndpointGroup). map deref seen ++ more) none ∙ append-nil (map deref seen))) ∙ memberships_of-all filters rows ordered view
+all_seen rows keys start rest seen ascends same begins yields none =
+    let whole = pairs_walked (map endpoint_group_of rows) keys start rest seen same begins yields in
+    sym (ap (memberships_of rows) (whole ∙ ap (λ (more : List EndpointGroup). map deref seen ++ more) none ∙ append-nil (map deref seen))) ∙ all_found rows ascends
 
 found_by : (passes : Bool) (membership : Membership) → is_some (cond passes (Some membership) None) ≡ passes
 found_by true membership = refl

@@ -4,7 +4,7 @@ use Rattle.amt_values.{specs.{declared.address.Ip.{Ip, TheVariants.{V4}}, Endpoi
 use Rattle.source_filter.specs.Filter.{admits}
 use Rattle.endpoint_membership.specs.{Admission.{is_admitted}, EndpointGroup.{EndpointGroup}, Log.{brought, latest}, Membership.{Membership}, Memberships.{is_live, membership_at, memberships_at, row_of, rows_of}}
 use Rattle.endpoint_membership.specs.{Published.{AnswerAlike, ClearingsLetNoTimePass, IsPublishedPart, clears_nothing, published_back, published_of, with_published}, Targets.{targets_of}, declared.change.Change.{Change, TheVariants.{Reported, Clear, Mark}}}
-use Rattle.endpoint_membership.proofs.{Clearings.{AreAlike, alike_all, alike_cleared, at_group, unseen}, HoldsAfter.{latest-reverse, reverse-push}, MembershipAt.{filter_in, membership_at-other}, MembershipsByLog.{AreMembershipsAt-memberships_at, rows_are}, RowsAdmit.{admits-membership_at}, TargetsByLog.{IsAscending-targets_of, has-targets_of}}
+use Rattle.endpoint_membership.proofs.{Clearings.{AreAlike, alike_all, alike_cleared, at_group, reverse-around, unseen}, HoldsAfter.{latest-reverse, reverse-push}, MembershipAt.{filter_in, membership_at-other}, MembershipsByLog.{AreMembershipsAt-memberships_at, rows_are}, RowsAdmit.{admits-membership_at}, TargetsByLog.{IsAscending-targets_of, admitted_later, has-targets_of}}
 
 -- logs turned round in which every pair has the same membership from now on
 abbrev AllAlike : ℕ → List Change → List Change → Type 0
@@ -53,19 +53,14 @@ same_found lifetime one other endpoint_group source moment after_one after_other
     sym (admits-membership_at lifetime one endpoint_group source moment found after_one same)
     ∙ admits-membership_at lifetime other endpoint_group source moment found after_other refl
 
-admitted_then : (lifetime : ℕ) (log : List Change) (endpoint_group : EndpointGroup) (source : Ip) (moment now : ℕ) → latest log ≡ now
-    → is_admitted lifetime log endpoint_group source (max moment now) ≡ is_admitted lifetime log endpoint_group source moment
-admitted_then lifetime log endpoint_group source moment now same =
-    let still : max (max moment now) (latest log) ≡ max moment (latest log) = omega arith in rw still refl
-
 same_admitted : (lifetime : ℕ) (one other : List Change) → latest one ≡ latest other → AllAlike lifetime (reverse one) (reverse other)
     → (endpoint_group : EndpointGroup) (source : Ip) (moment : ℕ) → is_admitted lifetime one endpoint_group source moment ≡ is_admitted lifetime other endpoint_group source moment
 same_admitted lifetime one other same alike endpoint_group source moment =
     let turned = latest-reverse one in
     let later = max moment (latest other) in
-    sym (admitted_then lifetime one endpoint_group source moment (latest other) same)
+    sym (ap (λ (now : ℕ). is_admitted lifetime one endpoint_group source (max moment now)) (sym same) ∙ admitted_later lifetime one endpoint_group source moment)
     ∙ same_found lifetime one other endpoint_group source later (omega arith) (omega arith) ((alike endpoint_group).1 later (omega arith))
-    ∙ admitted_then lifetime other endpoint_group source moment (latest other) refl
+    ∙ admitted_later lifetime other endpoint_group source moment
 
 same_memberships : (lifetime : ℕ) (one other : List Change) → latest one ≡ latest other → AllAlike lifetime (reverse one) (reverse other)
     → (moment : ℕ) → latest other ≤ moment → memberships_at lifetime moment one ≡ memberships_at lifetime moment other
@@ -93,12 +88,6 @@ AnswerAlike-turned lifetime one other alike =
     }
 
 -- a log that is cut at a clearing, which may be left out
-reverse-cut : (log later : List Change) (entry : Change) → reverse (log ++ entry ∷ later) ≡ reverse later ++ entry ∷ reverse log
-reverse-cut log later entry =
-    reverse-append log (entry ∷ later)
-    ∙ ap (λ (newer : List Change). newer ++ reverse log) (reverse-append (entry ∷ []) later)
-    ∙ append_assoc (reverse later) (entry ∷ []) (reverse log)
-
 now_or_later : (at now : ℕ) → at ≤ now → max at now ≡ now
 now_or_later at now before = omega arith
 
@@ -111,7 +100,7 @@ left_out lifetime log later endpoint at some before none =
     let without = alike_newer lifetime (reverse log) (Clear endpoint at ∷ reverse log) (reverse later) some (alike_back lifetime (Clear endpoint at ∷ reverse log) (reverse log) idle) in
     AnswerAlike-turned lifetime (log ++ later) (log ++ Clear endpoint at ∷ later)
     (subst (λ (past : List Change). AllAlike lifetime past (reverse (log ++ Clear endpoint at ∷ later))) (sym (reverse-append log later))
-    (subst (AllAlike lifetime (reverse later ++ reverse log)) (sym (reverse-cut log later (Clear endpoint at))) without))
+    (subst (AllAlike lifetime (reverse later ++ reverse log)) (sym (reverse-around log later (Clear endpoint at))) without))
 
 -- the published log grows with the accepted one
 

@@ -1,7 +1,7 @@
 -- Renewals that go in together, and out again where one is refused.
 use Rattle.std.{proofs.{Common.{◌≡◌, ℕ, Bool, true, false, cond, not, ◌&&◌, ◌||◌, List, [], ◌∷◌, ◌++◌, take, drop, refl, sym, ap, subst, ◌∙◌}, lemmas.{Cmp.{eq_by_cmp_equiv}, List.{take-append-drop, Folds.{list_any-append}}, Map.Views.{tells_apart}}}, specs.{BTreeSet.{BTreeSet}, Ordering.{eq_by_cmp}, declared.cmp.Ordering.{Ordering}}}
 use Rattle.std.specs.BTreeSet as sorted
-use Rattle.endpoint_membership.{specs.{Filters.{FiltersValue}, Membership.{Membership}, Parts.{AreRenewalsOf, is_renewal_in, is_stored, renewal_of, renewal_order}, declared.keys.LastRenewal.{LastRenewal}}, proofs.PartOrders.{renewal_order-exact, renewal_order-total, renewals_compared}}
+use Rattle.endpoint_membership.{specs.{Membership.{Membership}, Parts.{AreRenewalsOf, is_renewal_in, is_stored, renewal_of, renewal_order}, declared.keys.LastRenewal.{LastRenewal}}, proofs.PartOrders.{renewal_order-exact, renewal_order-total, renewals_compared}}
 use Rattle.endpoint_membership.specs.contracts.keys.LastRenewalOrd as renewals
 
 -- both say the same
@@ -73,7 +73,7 @@ taken_by false true false before same = refl
 taken_by false false stored before same = refl
 
 -- a renewal is taken out where no filter has it
-pub taken_out : (filters : FiltersValue) (key renewal : LastRenewal) (its before after : Bool) → is_stored filters key ≡ its
+pub taken_out : (filters : List Membership) (key renewal : LastRenewal) (its before after : Bool) → is_stored filters key ≡ its
     → after ≡ cond its before (cond (same_renewal key renewal) false before) → after ≡ cond (same_renewal key renewal && not (is_stored filters renewal)) false before
 taken_out filters key renewal its before after is now =
     now ∙ taken_by its (same_renewal key renewal) (is_stored filters renewal) before (λ here. sym is ∙ ap (is_stored filters) (tells_apart renewal_order-exact key renewal here))
@@ -87,7 +87,7 @@ undone_by false true stored is = is
 undone_by false false stored is = is
 
 -- a refusal is undone
-pub undone : (filters : FiltersValue) (memberships : List Membership) (before put after : BTreeSet LastRenewal) → AreRenewalsOf [] filters before
+pub undone : (filters : List Membership) (memberships : List Membership) (before put after : BTreeSet LastRenewal) → AreRenewalsOf [] filters before
     → ((renewal : LastRenewal) → sorted.contains renewal_order put renewal ≡ ((is_renewal_in memberships renewal && sorted.contains renewal_order put renewal) || sorted.contains renewal_order before renewal))
     → ((renewal : LastRenewal) → sorted.contains renewal_order after renewal ≡ (sorted.contains renewal_order put renewal && not (is_renewal_in memberships renewal && not (is_stored filters renewal))))
     → AreRenewalsOf [] filters after

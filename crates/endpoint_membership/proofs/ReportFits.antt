@@ -1,33 +1,18 @@
 -- What the memberships of an endpoint after its report may be, whatever log the memberships before stood for.
-use Rattle.std.proofs.Common.{◌≡◌, ℕ, ◌+◌, ◌≤◌, ◌<◌, ◌^◌, Bool, true, false, cond, ◌||◌, if◌then◌else◌, List, [], ◌∷◌, ◌++◌, filter, length, map, Option, Some, None, is_some, sum_by, unwrap_or, inl, inr, true≢false, refl, sym, ap, subst, ◌∙◌, arith}
-use Rattle.std.{proofs.lemmas.{Bool.{cases_Bool, lt-ltb}, Cmp.{tied_itself}, Map.Views.{tells_apart}}, specs.{List.{AllByRecursion, find, list_any}, Option.{option_or}, Ordering.{is_eq}}}
-use Rattle.amt_values.{specs.{declared.address.Ip.{Ip}, Order.{ip_order}, EndpointValue.{EndpointValue}, Ascending.{IsAscending, has}}, proofs.{Orders.{endpoint_order-exact, endpoint_order-total}, AscendingLaws.{IsAscending-filter}}}
-use Rattle.source_filter.specs.{Filter.{FilterValue, wants_any}, Record.{item_count}, declared.record.Record.{Record}}
-use Rattle.endpoint_membership.specs.{Membership.{Membership, is_fresh, membership_order, endpoint_group_of}, declared.{limits.{LimitFault.{LimitFault}, Limits.{Limits}}, after_report.RenewedFilter.{RenewedFilter}}, Stored.{earlier, is_counted, later, only}}
-use Rattle.endpoint_membership.specs.{Limits.{IsWithin, first_limit, group_count, live_count, size}, EndpointMemberships.{limit_by, AreGone, AreOf, AreOwn, filter_or_nothing, is_over, membership_of_renewed, renewed_filter_after_all, renewed_filter_of}, Log.{is_empty, on_group}}
-use Rattle.endpoint_membership.{specs.{EndpointGroup.{EndpointGroup, endpoint_group_order, same_endpoint, same_group}, Memberships.{membership_in}, Table.{AreLawful}}, proofs.ReportBounds.{All-at, All-from_membership_in, few_groups, sources-filter_after_all, sum_by-on_group}}
-use Rattle.endpoint_membership.proofs.{MembershipsByLog.{membership_by}, LimitByOwn.{first_limit_is}, MembershipIn.{membership_in-filter, same_rows}, ThreeParts.{IsAscending-replaced, is_of, parted}, AfterReport.{renewed_filter_after_all-is}, AfterEntries.{membership_in-of, membership_in-others, membership_in-three}, WithinLimits.{IsWithin-filter, IsWithin-report, its_endpoint_group, on_none}}
+use Rattle.std.proofs.Common.{◌≡◌, ℕ, ◌+◌, ◌≤◌, ◌<◌, ◌^◌, Bool, true, false, cond, ◌||◌, if◌then◌else◌, List, [], ◌∷◌, ◌++◌, filter, length, length-append, map, Option, Some, None, is_some, sum_by, true≢false, refl, sym, ap, subst, ◌∙◌, arith}
+use Rattle.std.{proofs.lemmas.{Bool.{lt-ltb, or_left, or_right}, Cmp.{eq_by_cmp_equiv, tied_itself}, List.{length-map, Sums.{length-filter}}, Map.{Keys.{IsDistinct-from_sorted}, Made.{length-le_from_is_member}, Views.{tells_apart}}}, specs.{List.{AllByRecursion}, Option.{option_or}, Ordering.{is_eq}}}
+use Rattle.amt_values.{specs.{declared.address.Ip.{Ip}, EndpointValue.{EndpointValue}, Ascending.{IsAscending, has}}, proofs.{Orders.{endpoint_order-exact, endpoint_order-total}, AscendingLaws.{IsAscending-filter, has-append}}}
+use Rattle.source_filter.specs.{Filter.{FilterValue, filter_after_all, wants_any}, Record.{item_count}, declared.record.Record.{Record}}
+use Rattle.endpoint_membership.specs.{Membership.{Membership, is_fresh, membership_order, endpoint_group_of}, declared.limits.Limits.{Limits}, Stored.{only}}
+use Rattle.endpoint_membership.specs.{Limits.{IsWithin, first_limit, group_count, size}, EndpointMemberships.{AreGone, AreOf, AreOwn, filter_or_nothing, membership_of_renewed, renewed_filter_after_all, renewed_filter_of}, Log.{on_group}}
+use Rattle.endpoint_membership.{specs.{EndpointGroup.{EndpointGroup, endpoint_group_order, same_endpoint}, Memberships.{endpoint_groups_of, membership_in}, Table.{AreLawful}}, proofs.ReportBounds.{All-at, given_by, sources-filter_after_all, sum_by-on_group}}
+use Rattle.endpoint_membership.proofs.{EndpointGroupOrder.{endpoint_group_order-total}, MembershipsByLog.{membership_by, on_group-none}, MembershipIn.{has-pairs, All-from_membership_in, IsAscending-pairs, GivesItsEndpointGroup-membership_in, cond_by, membership_in-filter, membership_in-where}, AfterReport.{AreAfterReport, renewed_filter_after_all-is}, AfterEntries.{membership_in-of}, WithinLimits.{IsWithin-filter, IsWithin-report, on_none}}
 
 abbrev endpoint_group : EndpointValue → Ip → EndpointGroup
 endpoint_group endpoint group = record { endpoint = endpoint; group = group }
 
 abbrev made : EndpointValue → Ip → FilterValue → ℕ → Membership
 made endpoint group filter renewed = record { endpoint = endpoint; group = group; filter = filter; renewed = renewed }
-
--- the membership of a filter has its filter and its renewal
-record IsRowOf (endpoint : EndpointValue) (group : Ip) (renewed_filter : Option RenewedFilter) (membership : Membership) : Type 0 where
-  filter : membership.filter ≡ filter_or_nothing renewed_filter
-  renewed : (one : RenewedFilter) → renewed_filter ≡ Some one → membership.renewed ≡ one.renewed
-  some : is_some renewed_filter ≡ true
-
-row_is : (endpoint : EndpointValue) (group : Ip) (renewed_filter : Option RenewedFilter) (membership : Membership) → membership_of_renewed endpoint group renewed_filter ≡ Some membership → IsRowOf endpoint group renewed_filter membership
-row_is endpoint group None membership found = cc
-row_is endpoint group (Some renewed_filter) membership found =
-    let is = membership_by (wants_any renewed_filter.filter) (made endpoint group renewed_filter.filter renewed_filter.renewed) membership found in record {
-      filter = ap (λ (one : Membership). one.filter) (sym is);
-      renewed = λ one same. ap (λ (each : Membership). each.renewed) (sym is) ∙ ap (λ (each : Option RenewedFilter). (unwrap_or each one).renewed) same;
-      some = refl;
-    }
 
 -- the membership of an old membership's filter is the old membership
 old_row : (endpoint : EndpointValue) (group : Ip) (found : Option Membership) (membership : Membership) → ((one : Membership) → found ≡ Some one → endpoint_group endpoint group ≡ endpoint_group_of one)
@@ -38,17 +23,14 @@ old_row endpoint group (Some one) membership its row =
     ap Some (ap (λ (at : EndpointGroup). made at.endpoint at.group one.filter one.renewed) (sym here)
     ∙ membership_by (wants_any one.filter) (made endpoint group one.filter one.renewed) membership row)
 
-passes_by : (passes : Bool) (one membership : Membership) (test : Membership → Bool) → test one ≡ passes → cond passes (Some one) None ≡ Some membership → test membership ≡ true
-passes_by true one membership test is passed = ap test (sym (membership_by true one membership passed)) ∙ is
-passes_by false one membership test is passed = cc
+parts_by : (passes : Bool) (one membership : Membership) (test : Membership → Bool) → test one ≡ passes → cond passes (Some one) None ≡ Some membership → (Some one ≡ Some membership) × (test membership ≡ true)
+parts_by true one membership test is passed = (passed, ap test (sym (membership_by true one membership passed)) ∙ is)
+parts_by false one membership test is passed = cc
 
-passes_only : (test : Membership → Bool) (found : Option Membership) (membership : Membership) → only test found ≡ Some membership → test membership ≡ true
-passes_only test None membership passed = cc
-passes_only test (Some one) membership passed = passes_by (test one) one membership test refl passed
-
-only_found : (test : Membership → Bool) (found : Option Membership) (membership : Membership) → only test found ≡ Some membership → found ≡ Some membership
-only_found test None membership passed = passed
-only_found test (Some one) membership passed = ap Some (membership_by (test one) one membership passed)
+-- what is found and passes was found, and passes
+only_parts : (test : Membership → Bool) (found : Option Membership) (membership : Membership) → only test found ≡ Some membership → (found ≡ Some membership) × (test membership ≡ true)
+only_parts test None membership passed = cc
+only_parts test (Some one) membership passed = parts_by (test one) one membership test refl passed
 
 -- the memberships that the filters of these memberships make of a pair, old or reported
 record IsOwnRow (lifetime moment : ℕ) (endpoint : EndpointValue) (records : List Record) (found : Option Membership) (group : Ip) (membership : Membership) : Type 0 where
@@ -60,22 +42,21 @@ own_row_by : (lifetime moment : ℕ) (endpoint : EndpointValue) (records : List 
     → on ≡ on_group group records → membership_of_renewed endpoint group (renewed_filter_after_all moment on (renewed_filter_of (only (is_fresh lifetime moment) (membership_in rows (endpoint_group endpoint group))))) ≡ Some membership
     → IsOwnRow lifetime moment endpoint records (only (is_fresh lifetime moment) (membership_in rows (endpoint_group endpoint group))) group membership
 own_row_by lifetime moment endpoint records rows group membership [] some on row =
-    let found = only (is_fresh lifetime moment) (membership_in rows (endpoint_group endpoint group)) in
-    let its : (one : Membership) → found ≡ Some one → endpoint_group endpoint group ≡ endpoint_group_of one = λ one given. its_endpoint_group rows (endpoint_group endpoint group) one (only_found (is_fresh lifetime moment) (membership_in rows (endpoint_group endpoint group)) one given) in
-    let old = old_row endpoint group found membership its row in
-    let sizes = ap (λ (sources : List Ip). length sources) (ap (λ (filter : FilterValue). filter.sources) (row_is endpoint group (renewed_filter_of found) membership row).filter) in record {
-      fresh = passes_only (is_fresh lifetime moment) (membership_in rows (endpoint_group endpoint group)) membership old;
+    let found = membership_in rows (endpoint_group endpoint group) in
+    let old = old_row endpoint group (only (is_fresh lifetime moment) found) membership
+    (λ one given. sym (GivesItsEndpointGroup-membership_in rows (endpoint_group endpoint group) one (only_parts (is_fresh lifetime moment) found one given).0)) row in
+    let sizes = ap (λ (one : Option Membership). length (filter_or_nothing (renewed_filter_of one)).sources) old in record {
+      fresh = (only_parts (is_fresh lifetime moment) found membership old).1;
       size = omega arith;
       old = λ none. old;
     }
 own_row_by lifetime moment endpoint records rows group membership (first ∷ later) some on row =
-    let found = only (is_fresh lifetime moment) (membership_in rows (endpoint_group endpoint group)) in
-    let is = renewed_filter_after_all-is moment first later (renewed_filter_of found) in
-    let row_is_of = row_is endpoint group (renewed_filter_after_all moment (first ∷ later) (renewed_filter_of found)) membership row in
-    let renewed = row_is_of.renewed _ is in
-    let filter = row_is_of.filter ∙ ap filter_or_nothing is in
-    let sizes = ap (λ (sources : List Ip). length sources) (ap (λ (one : FilterValue). one.sources) filter) in
-    let most = sources-filter_after_all (filter_or_nothing (renewed_filter_of found)) (first ∷ later) in
+    let found = renewed_filter_of (only (is_fresh lifetime moment) (membership_in rows (endpoint_group endpoint group))) in
+    let filter = filter_after_all (filter_or_nothing found) (first ∷ later) in
+    let is = membership_by (wants_any filter) (made endpoint group filter moment) membership (sym (ap (membership_of_renewed endpoint group) (renewed_filter_after_all-is moment first later found)) ∙ row) in
+    let renewed = ap (λ (one : Membership). one.renewed) is in
+    let sizes = ap (λ (one : Membership). length one.filter.sources) is in
+    let most = sources-filter_after_all (filter_or_nothing found) (first ∷ later) in
     let same = ap (sum_by (λ (one : Record). length one.sources)) on in record {
       fresh = lt-ltb _ _ (omega arith);
       size = omega arith;
@@ -87,31 +68,27 @@ own_row : (lifetime moment : ℕ) (endpoint : EndpointValue) (records : List Rec
 own_row lifetime moment endpoint records rows own group membership some owned found =
     own_row_by lifetime moment endpoint records rows group membership (on_group group records) some refl (sym (owned.each group) ∙ found)
 
-abbrev pub replaced : ℕ → ℕ → EndpointValue → List Membership → List Membership → List Membership
-replaced lifetime moment endpoint rows own = filter (is_fresh lifetime moment) (earlier endpoint rows ++ (own ++ later endpoint rows))
-
 own_endpoint_group : (endpoint : EndpointValue) (own : List Membership) (at : EndpointGroup) (membership : Membership) → AreOf endpoint own → membership_in own at ≡ Some membership → at ≡ endpoint_group endpoint at.group
 own_endpoint_group endpoint own at membership of found =
-    let here = its_endpoint_group own at membership found in
+    let here = sym (GivesItsEndpointGroup-membership_in own at membership found) in
     let same = All-at (λ (one : Membership). same_endpoint one.endpoint endpoint ≡ true) own at membership of found in
     ap (λ (one : EndpointValue). endpoint_group one at.group) (ap (λ (one : EndpointGroup). one.endpoint) here ∙ tells_apart endpoint_order-exact membership.endpoint endpoint same)
 
-filter_all : (test : Membership → Bool) (rows : List Membership) → AllByRecursion (λ membership. test membership ≡ true) rows → filter test rows ≡ rows
-filter_all test [] each = refl
-filter_all test (membership ∷ rest) each = rw each.0 (ap (λ (more : List Membership). membership ∷ more) (filter_all test rest each.1))
+only_by : (test : Membership → Bool) (found : Option Membership) → ((membership : Membership) → found ≡ Some membership → test membership ≡ true) → only test found ≡ found
+only_by test None passes = refl
+only_by test (Some membership) passes = rw (passes membership refl) refl
 
 -- all of the endpoint's memberships are fresh
-pub own_fresh : (lifetime moment : ℕ) (endpoint : EndpointValue) (records : List Record) (rows own : List Membership) → 0 < lifetime → AreOwn lifetime moment endpoint records rows own
-    → filter (is_fresh lifetime moment) own ≡ own
-own_fresh lifetime moment endpoint records rows own some owned =
-    filter_all (is_fresh lifetime moment) own (All-from_membership_in (λ (membership : Membership). is_fresh lifetime moment membership ≡ true) own owned.ascends
-    (λ at membership found. (own_row lifetime moment endpoint records rows own at.group membership some owned (ap (membership_in own) (sym (own_endpoint_group endpoint own at membership owned.of found)) ∙ found)).fresh))
+own_fresh : (lifetime moment : ℕ) (endpoint : EndpointValue) (records : List Record) (rows own : List Membership) (at : EndpointGroup) → 0 < lifetime → AreOwn lifetime moment endpoint records rows own
+    → only (is_fresh lifetime moment) (membership_in own at) ≡ membership_in own at
+own_fresh lifetime moment endpoint records rows own at some owned = only_by (is_fresh lifetime moment) (membership_in own at)
+    (λ membership found. (own_row lifetime moment endpoint records rows own at.group membership some owned (ap (membership_in own) (sym (own_endpoint_group endpoint own at membership owned.of found)) ∙ found)).fresh)
 
 renewed_size : (limits : Limits) (test : Membership → Bool) (rows : List Membership) (at : EndpointGroup) → IsWithin limits rows → (found : Option Membership) → found ≡ only test (membership_in rows at)
     → length (filter_or_nothing (renewed_filter_of found)).sources ≤ limits.sources
 renewed_size limits test rows at within None is = omega arith
 renewed_size limits test rows at within (Some membership) is =
-    All-at (λ (one : Membership). size one ≤ limits.sources) rows at membership within.sources (only_found test (membership_in rows at) membership (sym is))
+    All-at (λ (one : Membership). size one ≤ limits.sources) rows at membership within.sources (only_parts test (membership_in rows at) membership (sym is)).0
 
 -- no membership of the endpoint has more sources than an old one and the report together
 pub own_sizes : (limits : Limits) (lifetime moment : ℕ) (endpoint : EndpointValue) (records : List Record) (rows own : List Membership) → 0 < lifetime → AreOwn lifetime moment endpoint records rows own
@@ -127,26 +104,36 @@ own_sizes limits lifetime moment endpoint records rows own some owned within =
     let most = row.size in
     omega arith)
 
-is_some-found : (found : Option Membership) (membership : Membership) → found ≡ Some membership → is_some found ≡ true
-is_some-found None membership found = cc
-is_some-found (Some one) membership found = refl
+either_by : (reported was : Bool) → (reported ≡ false → was ≡ true) → (was || reported) ≡ true
+either_by true was old = or_right was true refl
+either_by false was old = or_left was false (old refl)
 
-has-groups : (records : List Record) (group : Ip) → has ip_order (map (λ (one : Record). one.group) records) group ≡ list_any (λ one. same_group group one.group) records
-has-groups [] group = refl
-has-groups (first ∷ later) group = ap (λ (more : Bool). same_group group first.group || more) (has-groups later group)
-
-reported_or_old : (reported : Bool) (old : Bool) → (reported ≡ false → old ≡ true) → (reported || old) ≡ true
-reported_or_old true old either = refl
-reported_or_old false old either = either refl
-
--- each group of the endpoint stood before or is reported
+-- each pair of the endpoint had a membership before or is reported
 pub own_few : (lifetime moment : ℕ) (endpoint : EndpointValue) (records : List Record) (rows own : List Membership) → 0 < lifetime → IsAscending membership_order rows → AreOwn lifetime moment endpoint records rows own
     → length own ≤ group_count endpoint rows + length records
 own_few lifetime moment endpoint records rows own some ascends owned =
-    few_groups endpoint records rows own ascends owned.ascends owned.of
-    (λ group membership found. reported_or_old (has ip_order (map (λ (one : Record). one.group) records) group) (is_some (membership_in rows (endpoint_group endpoint group)))
-    (λ silent. is_some-found (membership_in rows (endpoint_group endpoint group)) membership (only_found (is_fresh lifetime moment) (membership_in rows (endpoint_group endpoint group)) membership
-    ((own_row lifetime moment endpoint records rows own group membership some owned found).old (on_none group records (sym (has-groups records group) ∙ silent))))))
+    let mine = filter (λ (one : Membership). same_endpoint one.endpoint endpoint) rows in
+    let was = map endpoint_group_of mine in
+    let reported = endpoint_groups_of endpoint records in
+    let fewer = length-le_from_is_member (eq_by_cmp_equiv endpoint_group_order-total) (map endpoint_group_of own) (was ++ reported)
+    (IsDistinct-from_sorted endpoint_group_order (map endpoint_group_of own) (IsAscending-pairs own owned.ascends))
+    (λ at listed. has-append endpoint_group_order was reported at ∙ given_by ((has endpoint_group_order was at || has endpoint_group_order reported at) ≡ true) (membership_in own at) (sym (has-pairs own at) ∙ listed)
+    (λ membership found. either_by (has endpoint_group_order reported at) (has endpoint_group_order was at)
+    (λ quiet. let exact = own_endpoint_group endpoint own at membership owned.of found in
+    let here : same_endpoint at.endpoint endpoint ≡ true = ap (λ (one : EndpointGroup). same_endpoint one.endpoint endpoint) exact ∙ ap is_eq (tied_itself endpoint_order-total endpoint) in
+    let row = own_row lifetime moment endpoint records rows own at.group membership some owned (ap (membership_in own) (sym exact) ∙ found) in
+    has-pairs mine at ∙ ap is_some (membership_in-where (λ (one : EndpointGroup). same_endpoint one.endpoint endpoint) rows at ascends
+    ∙ ap (λ (test : Bool). cond test (membership_in rows at) None) here ∙ ap (membership_in rows) exact
+    ∙ (only_parts (is_fresh lifetime moment) (membership_in rows (endpoint_group endpoint at.group)) membership (row.old (on_group-none endpoint records at here quiet))).0)))) in
+    omega (
+      arith,
+      fewer,
+      length-append was reported,
+      length-map mine endpoint_group_of,
+      length-filter (λ (one : Membership). same_endpoint one.endpoint endpoint) rows,
+      length-map own endpoint_group_of,
+      length-map records (λ (one : Record). endpoint_group endpoint one.group),
+    )
 
 -- what is left of a pair of the endpoint at a moment, where its memberships were replaced
 left_own : (test : Membership → Bool) (here : Bool) (own old : Option Membership) → (here ≡ true → own ≡ None) → (own ≡ None → here ≡ false → only test old ≡ None) → only test (if here then None else option_or own old) ≡ only test own
@@ -162,59 +149,36 @@ not_gone false of apart its = refl
 left_other : (test : Membership → Bool) (here : Bool) (own old : Option Membership) → here ≡ false → own ≡ None → only test (if here then None else option_or own old) ≡ only test old
 left_other test here own old out none = rw (out, none) refl
 
--- Memberships that were set pair by pair are those with the endpoint's replaced, once what has expired
--- is gone.
-pub purged_is : (lifetime moment : ℕ) (endpoint : EndpointValue) (records : List Record) (rows own now : List Membership) (gone : List EndpointGroup) → IsAscending membership_order rows → IsAscending membership_order now
+-- memberships that were set pair by pair are those after the report, once what has expired is gone
+pub AreAfterReport-set : (lifetime moment : ℕ) (endpoint : EndpointValue) (records : List Record) (rows own now : List Membership) (gone : List EndpointGroup) → 0 < lifetime → IsAscending membership_order now
     → AreOwn lifetime moment endpoint records rows own → AreGone lifetime moment endpoint rows own gone
     → ((at : EndpointGroup) → membership_in now at ≡ (if has endpoint_group_order gone at then None else option_or (membership_in own at) (membership_in rows at)))
-    → filter (is_fresh lifetime moment) now ≡ replaced lifetime moment endpoint rows own
-purged_is lifetime moment endpoint records rows own now gone ascends ascend owned left each =
-    let test = is_fresh lifetime moment in
-    let parts = parted endpoint rows ascends in
-    let all = earlier endpoint rows ++ (own ++ later endpoint rows) in
-    let ascend_all = IsAscending-replaced endpoint rows own ascends owned.ascends owned.of in
-    same_rows (filter test now) (filter test all) (IsAscending-filter membership_order test now ascend) (IsAscending-filter membership_order test all ascend_all)
-    (λ at. membership_in-filter test now at ascend ∙ ap (only test) (each at) ∙ elim (cases_Bool (same_endpoint at.endpoint endpoint)) [
-      | inl same ↦
-          let exact = ap (λ (one : EndpointValue). endpoint_group one at.group) (tells_apart endpoint_order-exact at.endpoint endpoint same) in
-          left_own test (has endpoint_group_order gone at) (membership_in own at) (membership_in rows at) (left.none at)
+    → AreAfterReport lifetime moment endpoint rows own (filter (is_fresh lifetime moment) now)
+AreAfterReport-set lifetime moment endpoint records rows own now gone some ascend owned left each =
+    let test = is_fresh lifetime moment in record {
+      ascend = IsAscending-filter membership_order test now ascend;
+      each = λ at. membership_in-filter test now at ascend ∙ ap (only test) (each at)
+          ∙ sym (cond_by (same_endpoint at.endpoint endpoint) (membership_in own at) (only test (membership_in rows at))
+          (only test (if has endpoint_group_order gone at then None else option_or (membership_in own at) (membership_in rows at)))
+          (λ same. let exact = ap (λ (one : EndpointValue). endpoint_group one at.group) (tells_apart endpoint_order-exact at.endpoint endpoint same) in
+          sym (left_own test (has endpoint_group_order gone at) (membership_in own at) (membership_in rows at) (left.none at)
           (λ none out. ap (λ (one : EndpointGroup). only test (membership_in rows one)) exact ∙ left.all at.group (ap (membership_in own) (sym exact) ∙ none) (ap (has endpoint_group_order gone) (sym exact) ∙ out))
-          ∙ ap (only test) (sym (membership_in-three endpoint (earlier endpoint rows) own (later endpoint rows) at parts.earlier parts.later same))
-      | inr apart ↦
-          left_other test (has endpoint_group_order gone at) (membership_in own at) (membership_in rows at) (not_gone (has endpoint_group_order gone at) (same_endpoint at.endpoint endpoint) apart (left.of at)) (membership_in-of endpoint own at owned.of apart)
-          ∙ ap (only test) (ap (λ (whole : List Membership). membership_in whole at) parts.whole
-          ∙ membership_in-others endpoint (earlier endpoint rows) (filter (is_of endpoint) rows) own (later endpoint rows) at parts.of owned.of apart)
-    ] ∙ sym (membership_in-filter test all at ascend_all))
+          ∙ own_fresh lifetime moment endpoint records rows own at some owned))
+          (λ apart. sym (left_other test (has endpoint_group_order gone at) (membership_in own at) (membership_in rows at)
+          (not_gone (has endpoint_group_order gone at) (same_endpoint at.endpoint endpoint) apart (left.of at)) (membership_in-of endpoint own at owned.ascends owned.of apart))));
+    }
 
 -- memberships within the limits stay so by a report that passes none
-pub IsWithin-replaced : (limits : Limits) (lifetime moment : ℕ) (endpoint : EndpointValue) (records : List Record) (rows own : List Membership) → 0 < lifetime → IsAscending membership_order rows
-    → AreOwn lifetime moment endpoint records rows own → IsWithin limits rows → first_limit limits endpoint records (replaced lifetime moment endpoint rows own) ≡ None
-    → IsWithin limits (replaced lifetime moment endpoint rows own)
-IsWithin-replaced limits lifetime moment endpoint records rows own some ascends owned within none =
+pub IsWithin-reported : (limits : Limits) (lifetime moment : ℕ) (endpoint : EndpointValue) (records : List Record) (rows own after : List Membership) → 0 < lifetime → IsAscending membership_order rows
+    → AreOwn lifetime moment endpoint records rows own → AreAfterReport lifetime moment endpoint rows own after → IsWithin limits rows → first_limit limits endpoint records after ≡ None → IsWithin limits after
+IsWithin-reported limits lifetime moment endpoint records rows own after some ascends owned are within none =
     let test = is_fresh lifetime moment in
-    let parts = parted endpoint rows ascends in
-    let all = earlier endpoint rows ++ (own ++ later endpoint rows) in
-    let ascend = IsAscending-replaced endpoint rows own ascends owned.ascends owned.of in
-    IsWithin-report limits endpoint records (filter test rows) (filter test all) (IsAscending-filter membership_order test rows ascends) (IsAscending-filter membership_order test all ascend) (IsWithin-filter limits test rows within) none
-    (λ at apart. membership_in-filter test all at ascend
-    ∙ ap (only test) (membership_in-others endpoint (earlier endpoint rows) own (filter (is_of endpoint) rows) (later endpoint rows) at owned.of parts.of apart ∙ ap (λ (whole : List Membership). membership_in whole at) (sym parts.whole))
-    ∙ sym (membership_in-filter test rows at ascends))
+    IsWithin-report limits endpoint records (filter test rows) after (IsAscending-filter membership_order test rows ascends) are.ascend (IsWithin-filter limits test rows within) none
+    (λ at apart. are.each at ∙ ap (λ (here : Bool). if here then membership_in own at else only test (membership_in rows at)) apart ∙ sym (membership_in-filter test rows at ascends))
     (λ group membership silent found. membership_in-filter test rows (endpoint_group endpoint group) ascends
     ∙ (own_row lifetime moment endpoint records rows own group membership some owned
-    (sym (membership_in-three endpoint (earlier endpoint rows) own (later endpoint rows) (endpoint_group endpoint group) parts.earlier parts.later (ap is_eq (tied_itself endpoint_order-total endpoint)))
-    ∙ only_found test (membership_in all (endpoint_group endpoint group)) membership (sym (membership_in-filter test all (endpoint_group endpoint group) ascend) ∙ found))).old silent)
-
--- the first limit that a report passes, as the code finds it by the endpoint's memberships
-abbrev pub limit_by_own : ℕ → ℕ → Limits → EndpointValue → List Record → List Membership → List Membership → Option LimitFault
-limit_by_own lifetime moment limits endpoint records rows own =
-    limit_by limits (length own) (live_count (filter (is_counted lifetime moment endpoint) rows) + (if is_empty own then 0 else 1)) (find (is_over limits.sources records) own)
-
-pub first_limit_found : (lifetime moment : ℕ) (limits : Limits) (endpoint : EndpointValue) (records : List Record) (rows own slice : List Membership) (result : Option LimitFault) → 0 < lifetime → IsAscending membership_order rows
-    → AreOwn lifetime moment endpoint records rows own → slice ≡ own → result ≡ limit_by_own lifetime moment limits endpoint records rows slice
-    → first_limit limits endpoint records (replaced lifetime moment endpoint rows own) ≡ result
-first_limit_found lifetime moment limits endpoint records rows own slice result some ascends owned same is =
-    first_limit_is lifetime moment limits endpoint records rows own ascends owned.of (own_fresh lifetime moment endpoint records rows own some owned)
-    ∙ ap (limit_by_own lifetime moment limits endpoint records rows) (sym same) ∙ sym is
+    (ap (λ (here : Bool). if here then membership_in own (endpoint_group endpoint group) else only test (membership_in rows (endpoint_group endpoint group))) (sym (ap is_eq (tied_itself endpoint_order-total endpoint)))
+    ∙ sym (are.each (endpoint_group endpoint group)) ∙ found)).old silent)
 
 All-below : (bound most : ℕ) (rows : List Membership) → bound < most → AllByRecursion (λ membership. size membership ≤ bound) rows → AllByRecursion (λ membership. size membership < most) rows
 All-below bound most [] less each = tt

@@ -4,9 +4,6 @@ use Rattle.amt_values.specs.declared.address.Ip.{Ip}
 use Rattle.source_filter.specs.Filter.{FilterValue, admits}
 use Rattle.endpoint_membership.{specs.{declared.change.Change.{Change}, Membership.{Membership}, Admission.{is_admitted}, Log.{latest, live_chain, renewed_at}, EndpointGroup.{EndpointGroup}, Memberships.{membership_at}, GroupFilter.{records_admit}}, proofs.{MembershipAt.{filter_in, filter_in-membership, membership_at-is}, FilterByRecords.{admits-filter_by_records, filter_by_records}}}
 
-onward_is : (moment latest_one : ℕ) → latest_one ≤ moment → moment ≡ max moment latest_one
-onward_is moment latest_one onward = omega arith
-
 -- what the membership lets in, and nothing where there is none
 pub admits-membership_at : (lifetime : ℕ) (log : List Change) (endpoint_group : EndpointGroup) (source : Ip) (moment : ℕ) (found : Option Membership) → latest log ≤ moment
     → membership_at lifetime moment (reverse log) endpoint_group ≡ found → admits (filter_in found) source ≡ is_admitted lifetime log endpoint_group source moment
@@ -16,7 +13,7 @@ admits-membership_at lifetime log endpoint_group source moment found onward is =
     ap (λ (row : Option Membership). admits (filter_in row) source) (sym is ∙ membership_at-is lifetime moment past endpoint_group)
     ∙ ap (λ (filter : FilterValue). admits filter source) (filter_in-membership endpoint_group (filter_by_records chain) (renewed_at endpoint_group past))
     ∙ admits-filter_by_records chain source
-    ∙ ap (λ (later : ℕ). records_admit (live_chain lifetime endpoint_group later past) source) (onward_is moment (latest log) onward)
+    ∙ ap (λ (later : ℕ). records_admit (live_chain lifetime endpoint_group later past) source) (omega arith)
 
 -- what a membership lets in
 pub admits-row : (lifetime : ℕ) (log : List Change) (endpoint_group : EndpointGroup) (source : Ip) (moment : ℕ) (membership : Membership) → latest log ≤ moment

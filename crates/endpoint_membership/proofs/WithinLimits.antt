@@ -1,9 +1,9 @@
 -- When memberships stay within the limits: after a filter, and after a report that passes no limit.
-use Rattle.std.{proofs.{Common.{◌≡◌, ℕ, ◌≤◌, Bool, true, false, cond, ltb, ◌&&◌, ◌||◌, List, [], ◌∷◌, length, filter, Option, Some, None, refl, sym, ap, ◌∙◌, subst, arith, inl, inr}, lemmas.{Bool.{and_right, cases_Bool, le-ltb, ltb-false}, Cmp.{eq_by_cmp_equiv}, List.Sums.{length-filter}, Map.Views.{tells_apart}}}, specs.List.{AllByRecursion, find, list_any}}
-use Rattle.amt_values.{specs.{declared.address.Ip.{Ip}, EndpointValue.{EndpointValue}, Ascending.{IsAscending}}, proofs.{Orders.{endpoint_order-exact, endpoint_order-total}, AscendingLaws.{IsAscending-filter}}}
+use Rattle.std.{proofs.{Common.{◌≡◌, ℕ, ◌≤◌, Bool, true, false, cond, ltb, ◌&&◌, ◌||◌, List, [], ◌∷◌, length, filter, Option, Some, None, refl, sym, ap, ◌∙◌, subst, arith, inl, inr}, lemmas.{Bool.{and_right, cases_Bool, le-ltb, ltb-false}, List.Sums.{length-filter}, Map.Views.{tells_apart}}}, specs.List.{AllByRecursion, find, list_any}}
+use Rattle.amt_values.{specs.{declared.address.Ip.{Ip}, EndpointValue.{EndpointValue}, Ascending.{IsAscending}}, proofs.Orders.{endpoint_order-exact}}
 use Rattle.source_filter.specs.declared.record.Record.{Record}
-use Rattle.endpoint_membership.specs.{Stored.{only}, Limits.{IsWithin, first_limit, group_count, is_too_wide, live_count, size}, EndpointMemberships.{limit_by}, Log.{on_group}, EndpointGroup.{EndpointGroup, same_endpoint, same_group, same_endpoint_group}, Membership.{membership_order, endpoint_group_of, Membership}}
-use Rattle.endpoint_membership.{specs.{Memberships.{membership_in}, declared.limits.Limits.{Limits}}, proofs.{ReportBounds.{All-at, All-from_membership_in}, CountedRows.{group_count-filter, live_count-filter}, LimitOrder.{first_limit-by}, MembershipIn.{membership_in-filter, same_endpoint_group-exact, same_rows}}}
+use Rattle.endpoint_membership.specs.{Limits.{IsWithin, first_limit, group_count, is_too_wide, live_count, size}, EndpointMemberships.{limit_by}, Log.{on_group}, EndpointGroup.{EndpointGroup, same_endpoint, same_group}, Membership.{membership_order, Membership}}
+use Rattle.endpoint_membership.{specs.{Memberships.{membership_in}, declared.limits.Limits.{Limits}}, proofs.{ReportBounds.{All-at}, CountedRows.{group_count-filter, live_count-filter}, LimitOrder.{first_limit-by}, MembershipIn.{All-from_membership_in, GivesItsEndpointGroup-membership_in, same_where}}}
 
 membership_all : (P : Membership → Type 0) (passes : Bool) (membership : Membership) (some : List Membership) → P membership → AllByRecursion P some → AllByRecursion P (cond passes (membership ∷ some) some)
 membership_all P true membership some here rest = (here, rest)
@@ -65,17 +65,6 @@ All-fail test [] none = tt
 All-fail test (membership ∷ rest) none =
     let both = fails_first (test membership) membership (find test rest) none in (both.0, All-fail test rest both.1)
 
-its_by : (here : Bool) (first membership : Membership) (later : Option Membership) (endpoint_group : EndpointGroup) → (here ≡ true → endpoint_group ≡ endpoint_group_of first) → (later ≡ Some membership → endpoint_group ≡ endpoint_group_of membership)
-    → cond here (Some first) later ≡ Some membership → endpoint_group ≡ endpoint_group_of membership
-its_by true first membership later endpoint_group same more found = let is : first ≡ membership = cc in same refl ∙ ap endpoint_group_of is
-its_by false first membership later endpoint_group same more found = more found
-
--- the membership of a pair is of the pair
-pub its_endpoint_group : (rows : List Membership) (endpoint_group : EndpointGroup) (membership : Membership) → membership_in rows endpoint_group ≡ Some membership → endpoint_group ≡ endpoint_group_of membership
-its_endpoint_group [] endpoint_group membership found = cc
-its_endpoint_group (first ∷ rest) endpoint_group membership found =
-    its_by (same_endpoint_group endpoint_group (endpoint_group_of first)) first membership (membership_in rest endpoint_group) endpoint_group (same_endpoint_group-exact endpoint_group (endpoint_group_of first)) (its_endpoint_group rest endpoint_group membership) found
-
 on_first : (here : Bool) (one : Record) (some : List Record) (any : Bool) → (any ≡ false → some ≡ []) → (here || any) ≡ false → cond here (one ∷ some) some ≡ []
 on_first true one some any more none = cc
 on_first false one some any more none = more none
@@ -92,28 +81,15 @@ at endpoint group = record { endpoint = endpoint; group = group }
 at_endpoint : (endpoint : EndpointValue) (endpoint_group : EndpointGroup) → same_endpoint endpoint_group.endpoint endpoint ≡ true → endpoint_group ≡ at endpoint endpoint_group.group
 at_endpoint endpoint endpoint_group same = ap (λ (one : EndpointValue). at one endpoint_group.group) (tells_apart endpoint_order-exact endpoint_group.endpoint endpoint same)
 
--- a pair of one endpoint has no membership among those of another
-only_elsewhere : (found : Option Membership) (endpoint : EndpointValue) (endpoint_group : EndpointGroup) → ((membership : Membership) → found ≡ Some membership → endpoint_group ≡ endpoint_group_of membership) → same_endpoint endpoint_group.endpoint endpoint ≡ false
-    → only (λ membership. same_endpoint membership.endpoint endpoint) found ≡ None
-only_elsewhere None endpoint endpoint_group its apart = refl
-only_elsewhere (Some membership) endpoint endpoint_group its apart =
-    let elsewhere = sym (ap (λ (one : EndpointGroup). same_endpoint one.endpoint endpoint) (its membership refl)) ∙ apart in rw elsewhere refl
-
 -- an endpoint whose pairs have the memberships that they had has as many groups as it had
 same_count : (endpoint other : EndpointValue) (rows after : List Membership) → IsAscending membership_order rows → IsAscending membership_order after → same_endpoint other endpoint ≡ false
     → ((endpoint_group : EndpointGroup) → same_endpoint endpoint_group.endpoint endpoint ≡ false → membership_in after endpoint_group ≡ membership_in rows endpoint_group) → group_count other after ≡ group_count other rows
 same_count endpoint other rows after first second apart same =
     let test = λ (membership : Membership). same_endpoint membership.endpoint other in
-    let each : (endpoint_group : EndpointGroup) → only test (membership_in after endpoint_group) ≡ only test (membership_in rows endpoint_group) = λ endpoint_group. elim (cases_Bool (same_endpoint endpoint_group.endpoint endpoint)) [
-      | inl here ↦
-          let elsewhere : same_endpoint endpoint_group.endpoint other ≡ false = ap (λ (one : EndpointValue). same_endpoint one other) (tells_apart endpoint_order-exact endpoint_group.endpoint endpoint here)
-          ∙ (eq_by_cmp_equiv endpoint_order-total).symm endpoint other ∙ apart in
-          only_elsewhere (membership_in after endpoint_group) other endpoint_group (its_endpoint_group after endpoint_group) elsewhere ∙ sym (only_elsewhere (membership_in rows endpoint_group) other endpoint_group (its_endpoint_group rows endpoint_group) elsewhere)
-      | inr away ↦ ap (only test) (same endpoint_group away)
-    ] in
-    let left = same_rows (filter test after) (filter test rows) (IsAscending-filter membership_order test after second) (IsAscending-filter membership_order test rows first)
-    (λ endpoint_group. membership_in-filter test after endpoint_group second ∙ each endpoint_group ∙ sym (membership_in-filter test rows endpoint_group first)) in
-    sym (length-filter test after) ∙ ap (λ (all : List Membership). length all) left ∙ length-filter test rows
+    sym (length-filter test after)
+    ∙ ap (λ (all : List Membership). length all) (same_where (λ (one : EndpointGroup). same_endpoint one.endpoint other) after rows second first
+    (λ at here. same at (ap (λ (one : EndpointValue). same_endpoint one endpoint) (tells_apart endpoint_order-exact at.endpoint other here) ∙ apart)))
+    ∙ length-filter test rows
 
 narrow_by : (here reported wide : Bool) → here ≡ true → reported ≡ true → ((here && reported) && wide) ≡ false → wide ≡ false
 narrow_by true true wide first second none = none
@@ -128,7 +104,7 @@ narrow : (limits : Limits) (endpoint : EndpointValue) (records : List Record) (r
 narrow limits endpoint records rows after within none others silent endpoint_group membership found =
     let old : membership_in rows endpoint_group ≡ Some membership → size membership ≤ limits.sources =
     λ there. All-at (λ (one : Membership). size one ≤ limits.sources) rows endpoint_group membership within.sources there in
-    let is = its_endpoint_group after endpoint_group membership found in
+    let is = sym (GivesItsEndpointGroup-membership_in after endpoint_group membership found) in
     elim (cases_Bool (same_endpoint endpoint_group.endpoint endpoint)) [
       | inr away ↦ old (sym (others endpoint_group away) ∙ found)
       | inl here ↦ elim (cases_Bool (list_any (λ (one : Record). same_group endpoint_group.group one.group) records)) [

@@ -6,10 +6,6 @@ use Rattle.source_filter.specs.{Filter.{FilterValue, filter_after, nothing, want
 use Rattle.endpoint_membership.specs.{EndpointGroup.{EndpointGroup, endpoint_group_order, same_endpoint, same_group}, Limits.{count_conditions, size}, Log.{on_group}, Membership.{Membership, is_fresh, membership_order}}
 use Rattle.endpoint_membership.specs.{Memberships.{membership_in, membership_of}, Stored.{only}, declared.{after_report.RenewedFilter.{RenewedFilter}, limits.{LimitFault.{LimitFault, TheVariants.{Sources}}, Limits.{Limits}}}}
 
--- a membership of the endpoint that counts at the moment
-abbrev pub is_own : ℕ → ℕ → EndpointValue → Membership → Bool
-is_own lifetime moment endpoint membership = same_endpoint membership.endpoint endpoint && is_fresh lifetime moment membership
-
 -- the filter of a membership, and when it was renewed
 abbrev pub renewed_filter_of : Option Membership → Option RenewedFilter
 renewed_filter_of None = None

@@ -1,29 +1,23 @@
--- The filters of a table, kept by group, as a map by endpoint and group. No public contract says these
--- words.
-use Rattle.std.specs.{Prelude.{◌≡◌, List, is_some, Option, if◌then◌else◌}, BTreeMap.{BTreeMap, get, is_at}, BTreeSet.{BTreeSet}, List.{filter_map, Sorted.{IsStrictlySortedBy}}, Map.{keys_of, lookup}, Option.{option_map}, Ordering.{on, then_cmp}, declared.cmp.Ordering.{Ordering}}
+-- The filters of a table, kept by group, as the memberships that contracts see. No public contract says
+-- these words.
+use Rattle.std.specs.{Prelude.{◌≡◌, List, is_some, Option, if◌then◌else◌}, BTreeMap.{BTreeMap, get}, BTreeSet.{BTreeSet}, List.{filter_map}, Option.{option_map}, Ordering.{on, then_cmp}, declared.cmp.Ordering.{Ordering}}
 use Rattle.std.specs.BTreeSet as sorted
-use Rattle.amt_values.specs.Order.{ip_order, endpoint_order}
-use Rattle.endpoint_membership.specs.{EndpointGroup.{EndpointGroup, endpoint_group_order, same_endpoint_group}, declared.{keys.GroupMember.{GroupMember}, stored.StoredFilter.{StoredFilter}}}
+use Rattle.amt_values.specs.{Order.{ip_order, endpoint_order}, Ascending.{IsAscending}}
+use Rattle.endpoint_membership.specs.{EndpointGroup.{EndpointGroup, endpoint_group_order, same_endpoint_group}, Membership.{Membership, membership_order}, Memberships.{membership_in}, declared.{keys.GroupMember.{GroupMember}, stored.StoredFilter.{StoredFilter}}}
 
--- what contracts see of filters: each with its pair, by endpoint and then by group
-pub record FiltersValue : Type 0 where
-  pub entries : List (EndpointGroup × StoredFilter)
+-- the membership of a pair that has a filter
+abbrev pub stored_membership : EndpointGroup × StoredFilter → Membership
+stored_membership entry = record { endpoint = entry.0.endpoint; group = entry.0.group; filter = entry.1.filter; renewed = entry.1.renewed }
 
--- the pairs that have a filter
-abbrev pub pairs_of : FiltersValue → List EndpointGroup
-pairs_of filters = keys_of filters.entries
+-- the membership of the pair, if it has a filter
+abbrev pub membership_with : EndpointGroup → Option StoredFilter → Option Membership
+membership_with at found = option_map (λ stored. stored_membership (at, stored)) found
 
--- the pairs ascend
-abbrev pub AreOrdered : FiltersValue → Type 0
-AreOrdered filters = IsStrictlySortedBy endpoint_group_order (pairs_of filters)
-
--- the filter of the pair, if it has one
-abbrev pub filter_at : FiltersValue → EndpointGroup → Option StoredFilter
-filter_at filters at = lookup (is_at (endpoint_group_order at)) filters.entries
-
--- the pair has this filter now, or none, and each other pair has what it had
-abbrev pub IsSetAt : EndpointGroup → Option StoredFilter → FiltersValue → FiltersValue → Type 0
-IsSetAt at now before after = (other : EndpointGroup) → filter_at after other ≡ (if same_endpoint_group at other then now else filter_at before other)
+-- the pair has this membership now, or none, and each other pair has what it had; both lists ascend
+pub record IsSetAt (at : EndpointGroup) (now : Option Membership) (before after : List Membership) : Type 0 where
+  pub ascended : IsAscending membership_order before
+  pub ascends : IsAscending membership_order after
+  pub each : (other : EndpointGroup) → membership_in after other ≡ if same_endpoint_group at other then now else membership_in before other
 
 -- by group, then endpoint
 abbrev pub group_member_order : GroupMember → GroupMember → Ordering
@@ -37,13 +31,13 @@ member_of at = record { group = at.group; endpoint = at.endpoint }
 abbrev pub pair_of : GroupMember → EndpointGroup
 pair_of member = record { endpoint = member.endpoint; group = member.group }
 
--- the pair with its filter, if there is one
-abbrev pub entry_of : BTreeMap GroupMember StoredFilter → EndpointGroup → Option (EndpointGroup × StoredFilter)
-entry_of by_group at = option_map (λ stored. (at, stored)) (get group_member_order by_group (member_of at))
+-- the membership of the pair, by the filters of groups
+abbrev pub kept_at : BTreeMap GroupMember StoredFilter → EndpointGroup → Option Membership
+kept_at by_group at = membership_with at (get group_member_order by_group (member_of at))
 
--- the filters of the pairs
-abbrev pub filters_of : BTreeMap GroupMember StoredFilter → BTreeSet EndpointGroup → FiltersValue
-filters_of by_group pairs = record { entries = filter_map (entry_of by_group) pairs.keys }
+-- the memberships of the pairs
+abbrev pub memberships_by : BTreeMap GroupMember StoredFilter → BTreeSet EndpointGroup → List Membership
+memberships_by by_group pairs = filter_map (kept_at by_group) pairs.keys
 
 -- the pairs ascend, and are those of the members that have a filter
 pub record HaveSamePairs (by_group : BTreeMap GroupMember StoredFilter) (pairs : BTreeSet EndpointGroup) : Type 0 where

@@ -1,18 +1,14 @@
 -- The memberships of a table as the ascending list that its calls are proved by. No public contract says
 -- these words.
-use Rattle.std.specs.{Prelude.{ℕ, not, Bool, false, ◌&&◌, List, [], ◌∷◌, map, take, drop, is_some, Option, Some, None, if◌then◌else◌}, List.{filter, prefix_len}, Option.{option_or}, Ordering.{is_lt}}
-use Rattle.amt_values.specs.{declared.address.Ip.{Ip}, Order.{endpoint_order}, EndpointValue.{EndpointValue}}
+use Rattle.std.specs.Prelude.{◌≡◌, ℕ, not, Bool, false, ◌&&◌, List, is_some, Option, Some, None, if◌then◌else◌}
+use Rattle.amt_values.specs.{declared.address.Ip.{Ip}, Order.{endpoint_order}, EndpointValue.{EndpointValue}, Ascending.{IsAscending, has}}
 use Rattle.source_filter.specs.Filter.{admits}
-use Rattle.endpoint_membership.specs.{EndpointGroup.{EndpointGroup, same_endpoint, same_endpoint_group, same_group}, Membership.{Membership, endpoint_group_of, is_fresh}, Memberships.{membership_in}}
+use Rattle.endpoint_membership.specs.{EndpointGroup.{same_endpoint}, Membership.{Membership, endpoint_group_of, is_fresh}, Memberships.{membership_in}}
 
 -- a membership where it passes the test
 abbrev pub only : (Membership → Bool) → Option Membership → Option Membership
 only test None = None
 only test (Some membership) = if test membership then Some membership else None
-
--- a membership of another pair
-abbrev pub is_not_at : EndpointGroup → Membership → Bool
-is_not_at at membership = not (same_endpoint_group at (endpoint_group_of membership))
 
 -- some of the rows is of the membership's pair
 abbrev pub is_known : List Membership → Membership → Bool
@@ -22,50 +18,20 @@ is_known rows membership = is_some (membership_in rows (endpoint_group_of member
 abbrev pub is_of_another : EndpointValue → Membership → Bool
 is_of_another endpoint membership = not (same_endpoint membership.endpoint endpoint)
 
--- its endpoint comes before this one
-abbrev pub is_before : EndpointValue → Membership → Bool
-is_before endpoint membership = is_lt (endpoint_order membership.endpoint endpoint)
-
--- its endpoint comes after this one
-abbrev pub is_after : EndpointValue → Membership → Bool
-is_after endpoint membership = is_lt (endpoint_order endpoint membership.endpoint)
-
--- the number of memberships before the endpoint's
-abbrev pub start_of : EndpointValue → List Membership → ℕ
-start_of endpoint rows = prefix_len (is_before endpoint) rows
-
--- the number of memberships before those of later endpoints
-abbrev pub end_of : EndpointValue → List Membership → ℕ
-end_of endpoint rows = prefix_len (λ membership. not (is_after endpoint membership)) rows
-
--- the memberships of earlier endpoints
-abbrev pub earlier : EndpointValue → List Membership → List Membership
-earlier endpoint rows = take (start_of endpoint rows) rows
-
--- the memberships of later endpoints
-abbrev pub later : EndpointValue → List Membership → List Membership
-later endpoint rows = drop (end_of endpoint rows) rows
-
 -- a membership of another endpoint that counts at the moment
 abbrev pub is_counted : ℕ → ℕ → EndpointValue → Membership → Bool
 is_counted lifetime moment besides membership = is_of_another besides membership && is_fresh lifetime moment membership
-
--- the endpoint of the last one
-abbrev pub last_of : List Membership → Option EndpointValue
-last_of [] = None
-last_of (membership ∷ rest) = option_or (last_of rest) (Some membership.endpoint)
 
 -- the last one is of the endpoint
 abbrev pub ends_with : Option EndpointValue → EndpointValue → Bool
 ends_with None endpoint = false
 ends_with (Some last) endpoint = same_endpoint last endpoint
 
--- a membership in the group that counts at the moment and lets the source in
-abbrev pub is_target : ℕ → ℕ → Ip → Ip → Membership → Bool
-is_target lifetime moment group source membership =
-    (same_group membership.group group && is_fresh lifetime moment membership) && admits membership.filter source
+-- a membership that counts at the moment and lets the source in
+abbrev pub is_target : ℕ → ℕ → Ip → Membership → Bool
+is_target lifetime moment source membership = is_fresh lifetime moment membership && admits membership.filter source
 
--- the endpoints of such memberships
-abbrev pub targets_in : ℕ → ℕ → Ip → Ip → List Membership → List EndpointValue
-targets_in lifetime moment group source rows =
-    map (λ membership. membership.endpoint) (filter (is_target lifetime moment group source) rows)
+-- the endpoints ascend, and are those whose membership in the group is such a one
+pub record AreTargets (lifetime moment : ℕ) (group source : Ip) (rows : List Membership) (endpoints : List EndpointValue) : Type 0 where
+  pub ascend : IsAscending endpoint_order endpoints
+  pub each : (endpoint : EndpointValue) → has endpoint_order endpoints endpoint ≡ is_some (only (is_target lifetime moment source) (membership_in rows (record { endpoint = endpoint; group = group })))

@@ -38,11 +38,11 @@ pub struct StoredMemberships {
 
 impl Model for StoredMemberships {
     ghost use Rattle.std.specs.Prelude.{List};
-    ghost use Rattle.endpoint_membership.specs.{Membership.{Membership}, Parts.{AreAgreed, stored_memberships}};
+    ghost use Rattle.endpoint_membership.specs.{Membership.{Membership}, Parts.{AreAgreed}};
 
     ghost Value = { List Membership };
 
-    ghost view = { λ s. stored_memberships s.filters };
+    ghost view = { λ s. s.filters };
 
     ghost invariant = { λ s. AreAgreed s.filters s.renewals s.counts };
 }

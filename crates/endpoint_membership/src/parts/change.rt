@@ -1,8 +1,8 @@
 //! One membership more, and one less.
 
-ghost use Rattle.std.specs.{Prelude.{◌≡◌, ◌<◌, ◌^◌, None, Some, OnOk, OnErr}, BTreeMap.{get, insert_entry, IsUnchanged}, List.{filter}, Map.{count_at}};
-ghost use Rattle.amt_values.specs.{Ascending.{placed}, Order.{endpoint_order}};
-ghost use Rattle.endpoint_membership.specs.{EndpointGroup.{endpoint_group_order}, Filters.{AreOrdered, IsSetAt, filter_at}, Membership.{membership_order}, Memberships.{membership_in}, Parts.{HasNumber, one_less, one_more, stored_membership}, Stored.{is_not_at}};
+ghost use Rattle.std.specs.{Prelude.{◌≡◌, ◌<◌, ◌^◌, None, Some, OnOk, OnErr}, BTreeMap.{get, IsUnchanged}, Map.{count_at}};
+ghost use Rattle.amt_values.specs.Order.{endpoint_order};
+ghost use Rattle.endpoint_membership.specs.{Filters.{IsSetAt, stored_membership}, Memberships.{membership_in}, Parts.{HasNumber, one_less, one_more}};
 
 use super::StoredMemberships;
 use crate::filters::StoredFilters;
@@ -16,8 +16,8 @@ impl StoredMemberships {
     /// Adds the membership of a pair that has none. Out of memory nothing changes.
     pub fn insert(&mut self, at: EndpointGroup, stored: StoredFilter) -> Result<(), AllocError>
         requires absent { membership_in self.old at ≡ None }
-        ensures ok { OnOk result
-            (self.new ≡ placed membership_order (stored_membership (at, stored)) self.old) }
+        ensures set { OnOk result
+            (IsSetAt at (Some (stored_membership (at, stored))) self.old self.new) }
         ensures err { OnErr result (self.new ≡ self.old) }
     {
         // A count is at most the number of filters, so it has room for one more.
@@ -36,7 +36,7 @@ impl StoredMemberships {
 
     /// Takes the membership of the pair away, if there is one.
     pub fn remove(&mut self, at: &EndpointGroup)
-        ensures { self.new ≡ filter (is_not_at at.now) self.old }
+        ensures { IsSetAt at.now None self.old self.new }
     {
         let Some(stored) = self.filters.remove(at) else {
             return;
@@ -56,12 +56,10 @@ fn insert_counted(
     at: EndpointGroup,
     stored: StoredFilter,
 ) -> Result<(), AllocError>
-    requires absent { filter_at filters.old at ≡ None }
+    requires absent { membership_in filters.old at ≡ None }
     requires room { count_at (get endpoint_order counts.old) at.endpoint < 2 ^ 63 }
-    ensures filters { OnOk result (IsSetAt at (Some stored) filters.old filters.new) }
-    ensures entries { OnOk result
-        (filters.new.entries ≡ insert_entry endpoint_group_order filters.old.entries at stored) }
-    ensures ordered { OnOk result (AreOrdered filters.new) }
+    ensures filters { OnOk result
+        (IsSetAt at (Some (stored_membership (at, stored))) filters.old filters.new) }
     ensures counts { OnOk result (HasNumber at.endpoint
         (one_more (get endpoint_order counts.old at.endpoint)) counts.old counts.new) }
     ensures err_filters { OnErr result (filters.new ≡ filters.old) }

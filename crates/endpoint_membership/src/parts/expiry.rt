@@ -1,8 +1,7 @@
 //! Memberships that end: in time, or with their endpoint.
 
 ghost use Rattle.std.specs.{Prelude.{◌≡◌, ◌≤◌, IfSome, IfNone, IsSome, None}, List.{filter}};
-ghost use Rattle.amt_values.specs.Ascending.{IsAscending};
-ghost use Rattle.endpoint_membership.specs.{Membership.{is_fresh, membership_order}, Memberships.{membership_in}, Stored.{is_of_another, only}};
+ghost use Rattle.endpoint_membership.specs.{Membership.{is_fresh}, Memberships.{membership_in}, Stored.{is_of_another, only}};
 
 use super::StoredMemberships;
 use crate::keys::EndpointGroup;
@@ -10,14 +9,12 @@ use crate::stored::is_in_time;
 use amt_values::{Endpoint, Ip, Moment};
 
 impl StoredMemberships {
-    /// The membership that was renewed first, where that was not in time. The memberships ascend: a
-    /// caller that reads none of the parts knows it from here.
+    /// The membership that was renewed first, where that was not in time.
     pub fn first_expired(&self, moment: Moment, lifetime_ms: u64) -> Option<EndpointGroup>
         requires { lifetime_ms ≤ 1000000000 }
         ensures some { IfSome result (λ at. IsSome (membership_in self.now at)
             × (only (is_fresh lifetime_ms moment) (membership_in self.now at) ≡ None)) }
         ensures none { IfNone result (filter (is_fresh lifetime_ms moment) self.now ≡ self.now) }
-        ensures ascends { IsAscending membership_order self.now }
     {
         let first = self.renewals.first()?;
         if is_in_time(first.renewed, moment, lifetime_ms) {
@@ -36,12 +33,11 @@ impl StoredMemberships {
         }
     }
 
-    /// The endpoint with its least group. The memberships ascend, as for `first_expired`.
+    /// The endpoint with its least group.
     fn first_of(&self, endpoint: &Endpoint) -> Option<EndpointGroup>
         ensures some { IfSome result
             (λ at. (at.endpoint ≡ endpoint.now) × IsSome (membership_in self.now at)) }
         ensures none { IfNone result (filter (is_of_another endpoint.now) self.now ≡ self.now) }
-        ensures ascends { IsAscending membership_order self.now }
     {
         let start = EndpointGroup {
             endpoint: *endpoint,

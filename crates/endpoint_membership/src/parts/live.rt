@@ -1,7 +1,7 @@
 //! How many endpoints are live.
 
 ghost use Rattle.std.specs.{Prelude.{◌≡◌, ◌≤◌, is_some, if◌then◌else◌}, List.{filter}};
-ghost use Rattle.endpoint_membership.specs.{Limits.{live_count}, Memberships.{is_live, membership_in}, Parts.{stored_membership}, Stored.{ends_with, is_counted, is_of_another, only}};
+ghost use Rattle.endpoint_membership.specs.{Limits.{live_count}, Memberships.{is_live, membership_in}, Filters.{stored_membership}, Stored.{ends_with, is_counted, is_of_another, only}};
 
 use super::StoredMemberships;
 use crate::keys::EndpointGroup;

@@ -1,8 +1,8 @@
 //! Memberships that are renewed, all or none.
 
-ghost use Rattle.std.specs.{Prelude.{◌≡◌, [], true, not, ◌&&◌, ◌||◌, is_some, Some, option_map, OnOk, OnErr}, BTreeSet.{contains}, List.{AllByRecursion}, Option.{option_or}};
+ghost use Rattle.std.specs.{Prelude.{◌≡◌, [], true, not, ◌&&◌, ◌||◌, is_some, map, Some, OnOk, OnErr}, BTreeSet.{contains}, List.{AllByRecursion}, Option.{option_or}};
 ghost use Rattle.amt_values.specs.Ascending.{IsAscending};
-ghost use Rattle.endpoint_membership.specs.{EndpointGroup.{EndpointGroup as Pair}, Filters.{IsSetAt, filter_at, pairs_of}, Membership.{endpoint_group_of, membership_order}, Memberships.{membership_in}, Parts.{AreRenewalsOf, is_renewal_in, is_stored, renewal_of, renewal_order, stored_filter}, declared.keys.LastRenewal.{LastRenewal as Renewed}};
+ghost use Rattle.endpoint_membership.specs.{EndpointGroup.{EndpointGroup as Pair}, Filters.{IsSetAt}, Membership.{endpoint_group_of, membership_order}, Memberships.{membership_in}, Parts.{AreRenewalsOf, is_renewal_in, is_stored, renewal_of, renewal_order}, declared.keys.LastRenewal.{LastRenewal as Renewed}};
 
 use super::StoredMemberships;
 use crate::filters::StoredFilters;
@@ -111,9 +111,9 @@ fn put_membership(
     renewals: &mut BTreeSet<LastRenewal>,
     membership: OwnMembership,
 )
-    requires { is_some (filter_at filters.old (endpoint_group_of membership)) ≡ true }
-    ensures set { IsSetAt (endpoint_group_of membership) (Some (stored_filter membership)) filters.old filters.new }
-    ensures pairs { pairs_of filters.new ≡ pairs_of filters.old }
+    requires { is_some (membership_in filters.old (endpoint_group_of membership)) ≡ true }
+    ensures set { IsSetAt (endpoint_group_of membership) (Some membership) filters.old filters.new }
+    ensures pairs { map endpoint_group_of filters.new ≡ map endpoint_group_of filters.old }
     ensures renewals { (renewal : Renewed) → contains renewal_order renewals.new renewal
         ≡ (contains renewal_order renewals.old renewal
         && not (is_stored filters.old renewal && not (is_stored filters.new renewal))) }
@@ -137,12 +137,11 @@ fn settle(
 )
     requires ascend { IsAscending membership_order memberships.items }
     requires present { AllByRecursion (λ membership.
-        is_some (filter_at filters.old (endpoint_group_of membership)) ≡ true) memberships.items }
+        is_some (membership_in filters.old (endpoint_group_of membership)) ≡ true) memberships.items }
     requires staged { AreRenewalsOf memberships.items filters.old renewals.old }
-    ensures new { (at : Pair) → filter_at filters.new at
-        ≡ option_or (option_map stored_filter (membership_in memberships.items at))
-        (filter_at filters.old at) }
-    ensures pairs { pairs_of filters.new ≡ pairs_of filters.old }
+    ensures new { (at : Pair) → membership_in filters.new at
+        ≡ option_or (membership_in memberships.items at) (membership_in filters.old at) }
+    ensures pairs { map endpoint_group_of filters.new ≡ map endpoint_group_of filters.old }
     ensures renewals { AreRenewalsOf [] filters.new renewals.new }
 {
     for membership in memberships {

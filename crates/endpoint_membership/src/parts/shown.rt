@@ -1,7 +1,7 @@
 //! Memberships as they are shown.
 
 ghost use Rattle.std.specs.Prelude.{◌≡◌, [], ◌∷◌, ◌++◌, map, IfOk, OnOk};
-ghost use Rattle.endpoint_membership.specs.{Memberships.{row_of}, Parts.{stored_membership}};
+ghost use Rattle.endpoint_membership.specs.{Filters.{stored_membership}, Memberships.{row_of}};
 
 use super::StoredMemberships;
 use crate::keys::EndpointGroup;

@@ -1,8 +1,8 @@
 //! Which endpoints get a copy of a packet.
 
-ghost use Rattle.std.specs.Prelude.{◌≡◌, ◌≤◌, ◌+◌, ◌&&◌, length, nat_lt};
+ghost use Rattle.std.specs.Prelude.{◌≡◌, ◌≤◌, ◌+◌, ◌&&◌, nat_lt};
 ghost use Rattle.source_filter.specs.Filter.{admits};
-ghost use Rattle.endpoint_membership.specs.{EndpointGroup.{same_group}, Stored.{targets_in}};
+ghost use Rattle.endpoint_membership.specs.{EndpointGroup.{same_group}, Limits.{live_count}, Stored.{AreTargets}};
 
 use super::StoredMemberships;
 use crate::keys::GroupMember;
@@ -38,10 +38,9 @@ impl StoredMemberships {
         out: &mut Targets,
     )
         requires lifetime { lifetime_ms ≤ 1000000000 }
-        requires room { length (targets_in lifetime_ms moment group.now source.now self.now)
-            ≤ out.old.room }
-        ensures endpoints { out.new.endpoints
-            ≡ targets_in lifetime_ms moment group.now source.now self.now }
+        requires room { live_count self.now ≤ out.old.room }
+        ensures endpoints { AreTargets lifetime_ms moment group.now source.now self.now
+            out.new.endpoints }
         ensures room { out.new.room ≡ out.old.room }
     {
         out.clear();

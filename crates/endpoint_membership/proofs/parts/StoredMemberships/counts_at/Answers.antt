@@ -1,5 +1,5 @@
 use Rattle.std.proofs.Common.{None, Option, Some, is_some, sym, ap, ◌∙◌}
-use Rattle.endpoint_membership.{specs.{Membership.{Membership}, Parts.{stored_membership}, Stored.{is_counted, only}}, proofs.PairsWalked.{is_some-only, stored_at}}
+use Rattle.endpoint_membership.{specs.{Membership.{Membership}, Filters.{stored_membership}, Stored.{is_counted, only}}, proofs.PairsWalked.{is_some-only, stored_at}}
 use Rattle.endpoint_membership.proofs.parts.StoredMemberships.counts_at.Goals as goal
 
 pub returns-in-Some : goal.returns-in-Some

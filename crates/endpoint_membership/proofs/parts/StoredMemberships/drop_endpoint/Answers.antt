@@ -1,14 +1,10 @@
-use Rattle.std.proofs.Common.{List, ap, filter, length, ◌∙◌, arith}
-use Rattle.endpoint_membership.{specs.{Membership.{Membership}, Stored.{is_of_another}}, proofs.{EndpointRange.{not_another}, Expiry.{filter-drained, length-drained}}}
+use Rattle.std.proofs.Common.{◌∙◌}
+use Rattle.endpoint_membership.{specs.Stored.{is_of_another}, proofs.{EndpointRange.{not_another}, SetAt.{filter-taken, length-taken}}}
 use Rattle.endpoint_membership.proofs.parts.StoredMemberships.drop_endpoint.Goals as goal
 
 pub loop-at-smaller : goal.loop-at-smaller
-loop-at-smaller c =
-    let fewer = length-drained c.loop-at.self c.in-Some.at c.in-Some.ensures.some.1 in
-    let left = ap (λ (rows : List Membership). length rows) c.remove.ensures in
-    omega arith
+loop-at-smaller c = length-taken c.loop-at.self c.remove.new.self c.in-Some.at c.in-Some.ensures.some.1 c.remove.ensures
 
 pub loop-at-preserved : goal.loop-at-preserved
 loop-at-preserved c =
-    let test = is_of_another c.args.endpoint.now in
-    ap (filter test) c.remove.ensures ∙ filter-drained test c.loop-at.self c.in-Some.at c.first_of.ensures.ascends (not_another c.args.endpoint.now c.in-Some.at c.loop-at.self c.in-Some.ensures.some.0) ∙ c.loop-at.invariant
+    filter-taken (is_of_another c.args.endpoint.now) c.loop-at.self c.remove.new.self c.in-Some.at (not_another c.args.endpoint.now c.in-Some.at c.loop-at.self c.in-Some.ensures.some.0) c.remove.ensures ∙ c.loop-at.invariant

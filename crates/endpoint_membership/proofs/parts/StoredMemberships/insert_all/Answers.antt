@@ -1,41 +1,31 @@
-use Rattle.std.proofs.Common.{◌≡◌, None, Some, Option, if◌then◌else◌, List, sym, ap, subst, ◌∙◌}
-use Rattle.amt_values.{specs.Ascending.{IsAscending, placed}, proofs.AscendingLaws.{IsAscending-placed}}
-use Rattle.endpoint_membership.specs.{EndpointGroup.{EndpointGroup, same_endpoint_group}, Membership.{Membership, endpoint_group_of, membership_order}, Memberships.{membership_in}, Parts.{stored_membership}}
-use Rattle.endpoint_membership.{specs.declared.stored.StoredFilter.{StoredFilter}, proofs.{Drained.{begun, given_so_far}, EndpointGroupOrder.{membership_order-total}, SetTogether.{absent_still, ascend_so_far, at_hand, membership_in-placed, one_more_set, others_stay}}}
+use Rattle.std.{proofs.{Common.{◌≡◌, List, None, Some, sym, ap, subst, ◌∙◌}, lemmas.Map.Keys.{sorted_head, sorted_tail}}, specs.{Option.{option_or}, Vec.Iter.{into_iter_items}}}
+use Rattle.amt_values.specs.Ascending.{IsAscending}
+use Rattle.endpoint_membership.specs.{EndpointGroup.{EndpointGroup}, Filters.{IsSetAt, stored_membership}, Membership.{Membership, endpoint_group_of, membership_order}, Memberships.{membership_in}, Parts.{stored_filter}, declared.stored.StoredFilter.{StoredFilter}}
+use Rattle.endpoint_membership.proofs.{ReplacedFilters.{first_put}, SetTogether.{AreAbsent, absent_still, others_stay}}
 use Rattle.endpoint_membership.proofs.parts.StoredMemberships.insert_all.Goals as goal
 
 pub insert-requires : goal.insert-requires
-insert-requires c =
-    let gives = c.into_iter-membership-iterator.ensures.into_iter_gives in
-    let done = c.loop-membership.yielded in
-    let membership = c.in-Some.membership in
-    let all = begun c.args.added.items done membership c.into_iter-membership-iterator.result c.loop-membership.membership-iterator c.next.new.self c.next.result gives.0 c.loop-membership.yielded_by c.in-Some.is c.next.ensures.steps in
-    let absent = at_hand (λ one. membership_in c.args.self.now (endpoint_group_of one) ≡ None) c.args.added.items done _ membership all c.requires.absent in
-    record {
-      absent = ap (membership_in c.loop-membership.self) c.endpoint_group-at.ensures
-          ∙ absent_still done membership c.loop-membership.self c.args.self.now (ascend_so_far c.args.added.items _ _ all c.requires.ascend) absent c.loop-membership.invariant.each;
-    }
+insert-requires c = record {
+  absent = ap (membership_in c.loop-membership.self) c.endpoint_group-at.ensures ∙ (subst (AreAbsent c.loop-membership.self) c.in-Some.ensures.steps.0 c.loop-membership.invariant.absent).0;
+}
 
 pub loop-membership-preserved : goal.loop-membership-preserved
 loop-membership-preserved c =
-    let gives = c.into_iter-membership-iterator.ensures.into_iter_gives in
-    let done = c.loop-membership.yielded in
     let membership = c.in-Some.membership in
-    let all = begun c.args.added.items done membership c.into_iter-membership-iterator.result c.loop-membership.membership-iterator c.next.new.self c.next.result gives.0 c.loop-membership.yielded_by c.in-Some.is c.next.ensures.steps in
-    let absent = at_hand (λ one. membership_in c.args.self.now (endpoint_group_of one) ≡ None) c.args.added.items done _ membership all c.requires.absent in
-    let ascends = ascend_so_far c.args.added.items _ _ all c.requires.ascend in
-    let still = absent_still done membership c.loop-membership.self c.args.self.now ascends absent c.loop-membership.invariant.each in
-    let put = c.in_ok-insert.ensures.ok
-    ∙ ap (λ (at : EndpointGroup). placed membership_order (stored_membership (at, c.into_stored_filter.result)) c.loop-membership.self) c.endpoint_group-at.ensures
-    ∙ ap (λ (stored : StoredFilter). placed membership_order (stored_membership (endpoint_group_of membership, stored)) c.loop-membership.self) c.into_stored_filter.ensures in record {
-      ascends = subst (IsAscending membership_order) (sym put) (IsAscending-placed membership_order-total membership c.loop-membership.self c.loop-membership.invariant.ascends);
-      each = λ at. ap (λ (rows : List Membership). membership_in rows at) put ∙ membership_in-placed membership c.loop-membership.self at still
-          ∙ ap (λ (found : Option Membership). if same_endpoint_group at (endpoint_group_of membership) then Some membership else found) (c.loop-membership.invariant.each at)
-          ∙ one_more_set done membership (membership_in c.args.self.now at) at ascends;
+    let rest = into_iter_items c.next.new.self in
+    let rows = c.loop-membership.self in
+    let before = c.loop-membership.invariant in
+    let given = c.in-Some.ensures.steps.0 in
+    let ascend = subst (IsAscending membership_order) given before.ascend in
+    let set = subst (λ (at : EndpointGroup). IsSetAt at (Some (stored_membership (at, stored_filter membership))) rows c.insert.new.self) c.endpoint_group-at.ensures
+    (subst (λ (stored : StoredFilter). IsSetAt c.endpoint_group-at.result (Some (stored_membership (c.endpoint_group-at.result, stored))) rows c.insert.new.self) c.into_stored_filter.ensures c.in_ok-insert.ensures.set) in record {
+      ascends = set.ascends;
+      ascend = sorted_tail membership_order membership rest ascend;
+      absent = absent_still membership rest rows c.insert.new.self (sorted_head membership_order membership rest ascend) set (subst (AreAbsent rows) given before.absent).1;
+      each = λ at. first_put membership rest rows c.insert.new.self at ascend set ∙ ap (λ (left : List Membership). option_or (membership_in left at) (membership_in rows at)) (sym given) ∙ before.each at;
+      others = λ at none. others_stay membership rest rows c.insert.new.self at (membership_in c.args.self.now at) set
+          (subst (λ (left : List Membership). (membership_in left at ≡ None) × (membership_in rows at ≡ membership_in c.args.self.now at)) given (before.others at none));
     }
 
 pub returns-in_err-insert-clause-others : goal.returns-in_err-insert-clause-others
-returns-in_err-insert-clause-others c at none =
-    let gives = c.into_iter-membership-iterator.ensures.into_iter_gives in
-    ap (λ (rows : List Membership). membership_in rows at) c.in_err-insert.ensures.err
-    ∙ others_stay c.args.added.items c.loop-membership.yielded _ c.loop-membership.self c.args.self.now at (sym gives.0 ∙ (given_so_far _ _ c.loop-membership.yielded c.loop-membership.yielded_by).0) none (c.loop-membership.invariant.each at)
+returns-in_err-insert-clause-others c at none = ap (λ (rows : List Membership). membership_in rows at) c.in_err-insert.ensures.err ∙ (c.loop-membership.invariant.others at none).1

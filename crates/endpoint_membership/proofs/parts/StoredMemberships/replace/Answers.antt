@@ -1,6 +1,6 @@
 use Rattle.std.{proofs.Common.{◌≡◌, true, not, filter, Option, None, if◌then◌else◌, List, sym, ap, subst, ◌∙◌}, specs.{List.{AllByRecursion}, Option.{option_or}}}
 use Rattle.amt_values.{specs.Ascending.{IsAscending, has}, proofs.AscendingLaws.{IsAscending-filter}}
-use Rattle.endpoint_membership.{specs.{EndpointGroup.{endpoint_group_order}, Membership.{Membership, endpoint_group_of, membership_order}, Memberships.{membership_in}, Stored.{is_known}}, proofs.SetTogether.{All-absent, All-passing, parted_again}}
+use Rattle.endpoint_membership.{specs.{EndpointGroup.{endpoint_group_order}, Membership.{Membership, endpoint_group_of, membership_order}, Memberships.{membership_in}, Stored.{is_known}}, proofs.{KeysTogether.{All-passing}, SetTogether.{All-absent, parted_again}}}
 use Rattle.endpoint_membership.proofs.parts.StoredMemberships.replace.Goals as goal
 
 pub set_all-requires-clause-added : goal.set_all-requires-clause-added
@@ -15,7 +15,7 @@ set_all-requires-clause-absent c =
     subst (AllByRecursion (λ membership. membership_in c.args.self.now (endpoint_group_of membership) ≡ None)) (sym c.in_ok-parted.ensures.added) (All-absent c.args.self.now c.args.memberships.items)
 
 pub set_all-requires-clause-known : goal.set_all-requires-clause-known
-set_all-requires-clause-known c = subst (AllByRecursion (λ membership. is_known c.args.self.now membership ≡ true)) (sym c.in_ok-parted.ensures.kept) (All-passing (is_known c.args.self.now) c.args.memberships.items)
+set_all-requires-clause-known c = subst (AllByRecursion (λ membership. is_known c.args.self.now membership ≡ true)) (sym c.in_ok-parted.ensures.kept) (All-passing (λ (membership : Membership). is_known c.args.self.now membership ≡ true) (is_known c.args.self.now) (λ membership passes. passes) c.args.memberships.items)
 
 pub returns-clause-ok : goal.returns-clause-ok
 returns-clause-ok c at =

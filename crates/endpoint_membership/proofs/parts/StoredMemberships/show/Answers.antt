@@ -1,5 +1,6 @@
-use Rattle.std.proofs.Common.{None, Some, map, sym, ap, ◌∙◌}
-use Rattle.endpoint_membership.{specs.{Memberships.{row_of}, Parts.{stored_membership}}, proofs.PairsWalked.{all_seen, rows-push, seen-none, stored_at}}
+use Rattle.std.proofs.Common.{None, Some, map, sym, ap, subst, ◌∙◌}
+use Rattle.amt_values.specs.Ascending.{IsAscending}
+use Rattle.endpoint_membership.{specs.{Filters.{stored_membership}, Membership.{endpoint_group_of, membership_order}, Memberships.{row_of}}, proofs.PairsWalked.{all_seen, rows-push, seen-none, stored_at}}
 use Rattle.endpoint_membership.proofs.parts.StoredMemberships.show.Goals as goal
 
 pub loop-at-preserved-in-Ok : goal.loop-at-preserved-in-Ok
@@ -16,6 +17,7 @@ loop-at-preserved c =
 
 pub returns : goal.returns
 returns c =
+    let ascends = subst (IsAscending membership_order) c.self.view_is c.self.invariant.ascends in
     c.loop-at.invariant
-    ∙ ap (map row_of) (all_seen c.self.inside.filters c.args.self.now c.pairs-at-items.result.now.keys c.into_iter-at-iterator.result c.loop-at.at-iterator c.loop-at.yielded c.self.invariant.ordered c.self.view_is
-    c.pairs-at-items.ensures c.into_iter-at-iterator.ensures.into_iter_gives.0 c.loop-at.yielded_by c.in-None.ensures.steps.0)
+    ∙ ap (map row_of) (all_seen c.args.self.now c.pairs-at-items.result.now.keys c.into_iter-at-iterator.result c.loop-at.at-iterator c.loop-at.yielded ascends
+    (c.pairs-at-items.ensures.keys ∙ ap (map endpoint_group_of) c.self.view_is) c.into_iter-at-iterator.ensures.into_iter_gives.0 c.loop-at.yielded_by c.in-None.ensures.steps.0)

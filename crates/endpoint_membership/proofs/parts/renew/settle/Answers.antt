@@ -1,6 +1,6 @@
-use Rattle.std.{proofs.{Common.{List, option_map, sym, ap, subst, ◌∙◌}, lemmas.Map.Keys.{sorted_tail}}, specs.{Option.{option_or}, Vec.Iter.{into_iter_items}}}
+use Rattle.std.{proofs.{Common.{List, sym, ap, subst, ◌∙◌}, lemmas.Map.Keys.{sorted_tail}}, specs.{Option.{option_or}, Vec.Iter.{into_iter_items}}}
 use Rattle.amt_values.specs.Ascending.{IsAscending}
-use Rattle.endpoint_membership.{specs.{Filters.{filter_at}, Membership.{Membership, endpoint_group_of, membership_order}, Memberships.{membership_in}, Parts.{AreRenewalsOf, stored_filter}}, proofs.ReplacedFilters.{ArePresent, first_put, first_settled, same_found}}
+use Rattle.endpoint_membership.{specs.{Membership.{Membership, endpoint_group_of, membership_order}, Memberships.{membership_in}, Parts.{AreRenewalsOf}}, proofs.ReplacedFilters.{ArePresent, first_put, first_settled, same_found}}
 use Rattle.endpoint_membership.proofs.parts.renew.settle.Goals as goal
 
 pub put_membership-requires : goal.put_membership-requires
@@ -24,6 +24,6 @@ loop-membership-preserved c =
       staged = first_settled membership rest filters after c.loop-membership.renewals c.put_membership.new.renewals ascends c.put_membership.ensures.set
           (subst (λ (left : List Membership). AreRenewalsOf left filters c.loop-membership.renewals) given before.staged) c.put_membership.ensures.renewals;
       new = λ at. first_put membership rest filters after at ascends c.put_membership.ensures.set
-          ∙ ap (λ (left : List Membership). option_or (option_map stored_filter (membership_in left at)) (filter_at filters at)) (sym given) ∙ before.new at;
+          ∙ ap (λ (left : List Membership). option_or (membership_in left at) (membership_in filters at)) (sym given) ∙ before.new at;
       pairs = c.put_membership.ensures.pairs ∙ before.pairs;
     }

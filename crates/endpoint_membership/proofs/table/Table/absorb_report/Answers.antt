@@ -1,6 +1,6 @@
 use Rattle.std.{proofs.Common.{List, None, if◌then◌else◌, sym, ap, subst, ◌∙◌}, specs.Option.{option_or}}
 use Rattle.amt_values.{specs.Ascending.{IsAscending, has}, proofs.AscendingLaws.{IsAscending-filter}}
-use Rattle.endpoint_membership.{specs.{EndpointGroup.{EndpointGroup, endpoint_group_order}, EndpointMemberships.{AreGone, AreOwn}, Membership.{is_fresh, membership_order}, Memberships.{membership_in}, Table.{Holds, TableValue}}, proofs.{HoldsAfter.{Holds-report}, ReportFits.{purged_is}}}
+use Rattle.endpoint_membership.{specs.{EndpointGroup.{EndpointGroup, endpoint_group_order}, EndpointMemberships.{AreGone, AreOwn}, Membership.{is_fresh, membership_order}, Memberships.{membership_in}, Table.{Holds, TableValue}}, proofs.{AfterReport.{AreAfterReport}, HoldsAfter.{Holds-report}, ReportFits.{AreAfterReport-set}}}
 use Rattle.endpoint_membership.proofs.table.Table.absorb_report.Goals as goal
 
 pub invariant_of-self-2 : goal.invariant_of-self-2
@@ -15,8 +15,8 @@ returns-clause-stands c settings log holds =
     let gone = c.in_ok-memberships.field-0.gone.items in
     let owned = subst (λ (table : TableValue). AreOwn table.lifetime c.later-moment.result c.args.endpoint.now c.args.records.now table.rows own) (sym c.self.view_is) c.in_ok-memberships.ensures.own in
     let left = subst (λ (table : TableValue). AreGone table.lifetime c.later-moment.result c.args.endpoint.now table.rows own gone) (sym c.self.view_is) c.in_ok-memberships.ensures.gone in
-    let put = c.purge.ensures
-    ∙ purged_is c.self.inside.lifetime_ms c.later-moment.result c.args.endpoint.now c.args.records.now c.self.inside.rows own c.replace.new.self gone c.self.invariant.1 c.in_ok-replace.ensures.ascends owned left
-    (λ at. c.in_ok-replace.ensures.ok at ∙ ap (λ (pairs : List EndpointGroup). if has endpoint_group_order pairs at then None else option_or (membership_in own at) (membership_in c.self.inside.rows at)) c.deref.ensures.value) in
-    let inside = subst (λ (table : TableValue). Holds settings table log) (sym c.self.view_is) holds in
-    Holds-report settings _ log c.args.endpoint.now c.args.records.now c.args.at.now c.later-moment.result own c.purge.new.self c.self.invariant.0.some_time c.later-moment.ensures owned put inside
+    Holds-report settings _ log c.args.endpoint.now c.args.records.now c.args.at.now c.later-moment.result own c.self.invariant.0.some_time c.later-moment.ensures owned
+    (subst (λ (table : TableValue). Holds settings table log) (sym c.self.view_is) holds) c.purge.new.self
+    (subst (AreAfterReport c.self.inside.lifetime_ms c.later-moment.result c.args.endpoint.now c.self.inside.rows own) (sym c.purge.ensures)
+    (AreAfterReport-set c.self.inside.lifetime_ms c.later-moment.result c.args.endpoint.now c.args.records.now c.self.inside.rows own c.replace.new.self gone c.self.invariant.0.some_time c.in_ok-replace.ensures.ascends owned left
+    (λ at. c.in_ok-replace.ensures.ok at ∙ ap (λ (pairs : List EndpointGroup). if has endpoint_group_order pairs at then None else option_or (membership_in own at) (membership_in c.self.inside.rows at)) c.deref.ensures.value)))

@@ -1,6 +1,6 @@
 use Rattle.std.proofs.Common.{List, ℕ, rules, sym, subst, ◌≡◌, []}
 use Rattle.amt_values.specs.Ascending.{IsAscending}
-use Rattle.endpoint_membership.{specs.{Membership.{Membership, membership_order}, Table.{Holds, TableSettings}}, proofs.HoldsAfter.{Holds-new, IsAscending-none, table_of}}
+use Rattle.endpoint_membership.{specs.{Membership.{Membership, membership_order}, Table.{Holds, TableSettings}}, proofs.{HoldsAfter.{Holds-new, table_of}, MembershipIn.{IsAscending-none}}}
 use Rattle.endpoint_membership.proofs.table.Table.new.Goals as goal
 
 pub invariant_of-result : goal.invariant_of-result
