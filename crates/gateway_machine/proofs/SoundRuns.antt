@@ -1,11 +1,11 @@
 -- What holds of every run.
-use Rattle.std.proofs.{Common.{◌≡◌, ℕ, Bool, List, [], ◌∷◌, ◌++◌, All, Option, Some, None, Ok, refl, sym, ap, subst, ◌∙◌, append-nil, append_assoc}, lemmas.List.Elements.{All-weaker, filter_map-append}}
+use Rattle.std.proofs.{Common.{◌≡◌, ℕ, List, [], ◌∷◌, ◌++◌, All, Option, Some, None, Ok, refl, sym, ap, subst, ◌∙◌, append-nil, append_assoc}, lemmas.List.Elements.{All-weaker, filter_map-append}}
 use Rattle.amt_values.specs.declared.{mac.Mac48.{Mac48}, peer.Peer.{Peer}}
-use Rattle.amt_messages.{specs.{Refusal.{message_of}, declared.message.Message.TheVariants.{Multicast, Query}}, proofs.Answered.{Spells-read}}
+use Rattle.amt_messages.{specs.{declared.message.Message.TheVariants.{Multicast, Query}}, proofs.Answered.{Spells-read}}
 use Rattle.inner_datagrams.proofs.Heads.{answer_found}
-use Rattle.gateway_machine.specs.declared.{event.GatewayEvent.{GatewayEvent, TheVariants.{Datagram}}, exchange.{Exchange.{Exchange}, LastQuery.{LastQuery}}, settings.GatewaySettings.{GatewaySettings}}
+use Rattle.gateway_machine.specs.declared.{event.GatewayEvent.{GatewayEvent}, exchange.{LastQuery.{LastQuery}}, settings.GatewaySettings.{GatewaySettings}}
 use Rattle.gateway_machine.specs.{Laws.{HasAcceptedQuery, HasQuery, HasRelay, IsDirected, IsWantedPacket, last_of, last_request, nonce_asked}, Runs.{Run, answer_after, run_of}, Sends.{Sending}}
-use Rattle.gateway_machine.proofs.{Lawful.{IsBy, IsFit, IsLawful, IsOwed, IsSound, IsSoundAnswer, event-lawful, nonces_asked}, Runs.{run_of-append, run_of-nil}}
+use Rattle.gateway_machine.proofs.{Lawful.{IsBy, IsFit, IsLawful, IsSound, IsSoundAnswer, event-lawful, nonces_asked}, Runs.{run_of-append, run_of-nil}}
 
 last_of-append : (before : Option ℕ) (nonces more : List ℕ) → last_of before (nonces ++ more) ≡ last_of (last_of before nonces) more
 last_of-append before [] more = refl
