@@ -1,19 +1,16 @@
 -- Each Update and each Teardown that is sent carries the MAC and the nonce of an accepted Query.
-use Rattle.std.{proofs.Common.{◌≡◌, ℕ, List, [], ◌∷◌, ◌++◌, map, subst}, specs.List.{All}}
-use Rattle.gateway_machine.{specs.{declared.{event.GatewayEvent.{GatewayEvent}, settings.GatewaySettings.{GatewaySettings}, step.PeerSend.{PeerSend}}, Laws.{AreAuthorized, HasAcceptedQuery, IsAuthorized}, Runs.{answer_after}, Sends.{Sending, datagram_of}}, proofs.{SoundRuns.{answer-sound, run-sound}, Sound.{Carries}}}
-
-sending-authorized : (settings : GatewaySettings) (first : ℕ) (events : List GatewayEvent) (sending : Sending)
-    → Carries (HasAcceptedQuery settings first events) sending.message → IsAuthorized settings first events sending
-sending-authorized settings first events sending carries = record {
-  update = λ mac nonce inner is. subst (Carries (HasAcceptedQuery settings first events)) is carries;
-  teardown = λ mac nonce gateway is. subst (Carries (HasAcceptedQuery settings first events)) is carries;
-}
+use Rattle.std.{proofs.{Common.{◌≡◌, ℕ, List, [], ◌∷◌, ◌++◌, map, subst}, lemmas.List.Elements.{All-weaker}}, specs.List.{All}}
+use Rattle.gateway_machine.{specs.{declared.{event.GatewayEvent.{GatewayEvent}, settings.GatewaySettings.{GatewaySettings}, step.PeerSend.{PeerSend}}, Laws.{AreAuthorized, HasAcceptedQuery, IsAuthorized}, Runs.{answer_after}, Sends.{datagram_of}}, proofs.{SoundRuns.{answer-sound, run-sound}, Lawful.{Carries, IsFit}}}
 
 pub authorized : (settings : GatewaySettings) (first : ℕ) (events : List GatewayEvent) (event : GatewayEvent)
     → All (IsAuthorized settings first (events ++ event ∷ [])) (answer_after settings first events event).sends
-authorized settings first events event k sending below =
-    sending-authorized settings first (events ++ event ∷ []) _
-    ((answer-sound settings first events event (run-sound settings first events)).sends k sending below)
+authorized settings first events event =
+    let Good = HasAcceptedQuery settings first (events ++ event ∷ []) in
+    let answer = answer_after settings first events event in
+    All-weaker (IsFit Good settings answer.next.relay) (IsAuthorized settings first (events ++ event ∷ [])) (λ sending fit. record {
+      update = λ mac nonce inner is. subst (Carries Good) is fit.1;
+      teardown = λ mac nonce gateway is. subst (Carries Good) is fit.1;
+    }) answer.sends (answer-sound settings first events event (run-sound settings first events)).sends
 
 -- the same of the datagrams of an answer
 pub authorized-sends : (settings : GatewaySettings) (first : ℕ) (events : List GatewayEvent) (event : GatewayEvent) (sends : List PeerSend)

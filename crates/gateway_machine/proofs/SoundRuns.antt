@@ -1,9 +1,11 @@
--- What holds of the exchange in every run.
-use Rattle.std.proofs.{Common.{◌≡◌, ℕ, Bool, List, [], ◌∷◌, ◌++◌, Option, Some, None, Ok, refl, sym, ap, subst, ◌∙◌, append-nil, append_assoc}, lemmas.List.Elements.{filter_map-append}}
-use Rattle.amt_values.specs.{EndpointValue.{EndpointValue}, declared.{mac.Mac48.{Mac48}, peer.Peer.{Peer}}}
-use Rattle.amt_messages.{specs.{Refusal.{message_of}, declared.message.Message.TheVariants.{Query}}, proofs.Answered.{Spells-read}}
-use Rattle.gateway_machine.specs.declared.{event.GatewayEvent.{GatewayEvent, TheVariants.{Datagram}}, exchange.LastQuery.{LastQuery}, outcome.GatewayOutcome.TheVariants.{Active}, settings.GatewaySettings.{GatewaySettings}}
-use Rattle.gateway_machine.{specs.{Laws.{HasAcceptedQuery, HasQuery, HasRelay, last_of, last_request, nonce_asked}, Runs.{Run, answer_after, run_of}, Sends.{Sending}}, proofs.{Heard.{event-sound}, Runs.{run_of-append, run_of-nil}, Sound.{IsBy, IsSound, IsSoundAnswer, nonces_asked}}}
+-- What holds of every run.
+use Rattle.std.proofs.{Common.{◌≡◌, ℕ, List, [], ◌∷◌, ◌++◌, All, Option, Some, None, Ok, refl, sym, ap, subst, ◌∙◌, append-nil, append_assoc}, lemmas.List.Elements.{All-weaker, filter_map-append}}
+use Rattle.amt_values.specs.declared.{mac.Mac48.{Mac48}, peer.Peer.{Peer}}
+use Rattle.amt_messages.{specs.{declared.message.Message.TheVariants.{Multicast, Query}}, proofs.Answered.{Spells-read}}
+use Rattle.inner_datagrams.proofs.Heads.{answer_found}
+use Rattle.gateway_machine.specs.declared.{event.GatewayEvent.{GatewayEvent}, exchange.{LastQuery.{LastQuery}}, settings.GatewaySettings.{GatewaySettings}}
+use Rattle.gateway_machine.specs.{Laws.{HasAcceptedQuery, HasQuery, HasRelay, IsDirected, IsWantedPacket, last_of, last_request, nonce_asked}, Runs.{Run, answer_after, run_of}, Sends.{Sending}}
+use Rattle.gateway_machine.proofs.{Lawful.{IsBy, IsFit, IsLawful, IsSound, IsSoundAnswer, event-lawful, nonces_asked}, Runs.{run_of-append, run_of-nil}}
 
 last_of-append : (before : Option ℕ) (nonces more : List ℕ) → last_of before (nonces ++ more) ≡ last_of (last_of before nonces) more
 last_of-append before [] more = refl
@@ -19,82 +21,103 @@ last_request-append settings first events event =
     ∙ ap (λ (nonces : List ℕ). last_of None nonces) (filter_map-append (λ (sending : Sending). nonce_asked sending.message) before sends)
     ∙ last_of-append None (nonces_asked before) (nonces_asked sends)
 
--- the Query was there before one more event
-query-before : (settings : GatewaySettings) (first : ℕ) (events : List GatewayEvent) (event : GatewayEvent) (mac : Mac48) (nonce : ℕ)
-    → HasAcceptedQuery settings first events mac nonce → HasAcceptedQuery settings first (events ++ event ∷ []) mac nonce
-query-before settings first events event mac nonce has = record {
-  earlier = has.earlier;
-  event = has.event;
-  later = has.later ++ event ∷ [];
-  among = ap (λ (events : List GatewayEvent). events ++ event ∷ []) has.among ∙ append_assoc has.earlier (has.event ∷ has.later) (event ∷ []);
-  query = has.query;
-}
-
-query_by-before : (settings : GatewaySettings) (first : ℕ) (events : List GatewayEvent) (event : GatewayEvent) (query : Option LastQuery)
+-- a Query that was accepted before one more event was so after it
+query-before : (settings : GatewaySettings) (first : ℕ) (events : List GatewayEvent) (event : GatewayEvent) (query : Option LastQuery)
     → IsBy (HasAcceptedQuery settings first events) query → IsBy (HasAcceptedQuery settings first (events ++ event ∷ [])) query
-query_by-before settings first events event None by = tt
-query_by-before settings first events event (Some query) by = query-before settings first events event query.mac query.nonce by
-
--- the Query is the event
-query-now : (settings : GatewaySettings) (first : ℕ) (events : List GatewayEvent) (event : GatewayEvent) (from : Peer) (bytes : List ℕ)
-    (limited : Bool) (mac : Mac48) (nonce : ℕ) (inner : List ℕ) (seen : Option EndpointValue) → event ≡ Datagram from bytes
-    → message_of bytes ≡ Ok (Query limited mac nonce inner seen) → (run_of settings first events).exchange.relay ≡ Some from
-    → last_request settings first events ≡ Some nonce → (answer_after settings first events event).outcome ≡ Active
-    → HasAcceptedQuery settings first (events ++ event ∷ []) mac nonce
-query-now settings first events event from bytes limited mac nonce inner seen came read sender asked accepted = record {
-  earlier = events;
-  event = event;
-  later = [];
-  among = refl;
-  query = record {
-    from = from;
-    bytes = bytes;
-    limited = limited;
-    inner = inner;
-    seen = seen;
-    came = came;
-    spelled = (Spells-read bytes (Query limited mac nonce inner seen)).1 read;
-    sender = sender;
-    asked = asked;
-    accepted = accepted;
-  };
+query-before settings first events event None by = tt
+query-before settings first events event (Some query) by = record {
+  earlier = by.earlier;
+  event = by.event;
+  later = by.later ++ event ∷ [];
+  among = ap (λ (events : List GatewayEvent). events ++ event ∷ []) by.among ∙ append_assoc by.earlier (by.event ∷ by.later) (event ∷ []);
+  query = by.query;
 }
-
--- the exchange after these events is a sound one
-pub IsSoundAfter : GatewaySettings → ℕ → List GatewayEvent → Type 0
-IsSoundAfter settings first events =
-    IsSound (HasAcceptedQuery settings first events) settings.relay (last_request settings first events) (run_of settings first events).exchange
 
 module _ (settings : GatewaySettings) (first : ℕ) where
-  start-sound : IsSoundAfter settings first []
-  unfolding IsSoundAfter
-  start-sound =
-      rw (run_of-nil settings first) (record { relay = tt; query = tt; kept = λ peer configured. (configured, tt); request = tt; by = tt })
+  -- the MAC and the nonce are those of a Query that was accepted in these events
+  abbrev pub IsGood : List GatewayEvent → Mac48 → ℕ → Type 0
+  IsGood events = HasAcceptedQuery settings first events
 
-  pub answer-sound : (events : List GatewayEvent) (event : GatewayEvent) → IsSoundAfter settings first events
-      → IsSoundAnswer (HasAcceptedQuery settings first (events ++ event ∷ [])) settings.relay (last_request settings first events) (answer_after settings first events event)
-  unfolding IsSoundAfter
-  answer-sound events event sound =
+  -- the exchange after these events is a sound one
+  pub IsSoundAfter : List GatewayEvent → Type 0
+  IsSoundAfter events =
+      IsSound (IsGood events) settings (last_request settings first events) (run_of settings first events).exchange
+
+  -- what is sent and handed on after these events, and the exchange after it
+  lawful : (events : List GatewayEvent) (event : GatewayEvent)
+      → IsLawful (IsGood (events ++ event ∷ [])) (IsWantedPacket settings first events event) (λ left. Unit {0}) settings (last_request settings first events)
+      (run_of settings first events).exchange (answer_after settings first events event)
+  lawful events event =
       let run = run_of settings first events in
-      event-sound (HasAcceptedQuery settings first (events ++ event ∷ [])) (last_request settings first events) settings event run.exchange run.history
-      (query-now settings first events event)
-      (record { relay = sound.relay; query = sound.query; kept = sound.kept; request = sound.request; by = query_by-before settings first events event run.exchange.query sound.by })
+      event-lawful _ _ _ settings (last_request settings first events) event run.exchange run.history tt (λ from bytes came. record {
+        good = λ limited mac nonce inner seen read sender asked accepted. record {
+          earlier = events;
+          event = event;
+          later = [];
+          among = refl;
+          query = record {
+            from = from;
+            bytes = bytes;
+            limited = limited;
+            inner = inner;
+            seen = seen;
+            came = came;
+            spelled = (Spells-read bytes (Query limited mac nonce inner seen)).1 read;
+            sender = sender;
+            asked = asked;
+            accepted = accepted;
+          };
+        };
+        given = λ packet head read sender begins scope wanted. record {
+          from = from;
+          bytes = bytes;
+          head = head;
+          came = came;
+          spelled = (Spells-read bytes (Multicast packet)).1 read;
+          sender = sender;
+          begins = answer_found (Ok head) packet (sym begins);
+          scope = scope;
+          wanted = wanted;
+        };
+      })
 
-  next-sound : (events : List GatewayEvent) (event : GatewayEvent) → IsSoundAfter settings first events → IsSoundAfter settings first (events ++ event ∷ [])
+  -- a packet is handed on only as it stands in Multicast Data from the relay, and where some socket wants it
+  pub wanted : (events : List GatewayEvent) (event : GatewayEvent) (packet : List ℕ) → (answer_after settings first events event).deliver ≡ Some packet
+      → IsWantedPacket settings first events event packet
+  wanted events event = (lawful events event).given
+
+  pub answer-sound : (events : List GatewayEvent) (event : GatewayEvent) → IsSoundAfter events
+      → IsSoundAnswer (IsGood (events ++ event ∷ [])) settings (last_request settings first events) (answer_after settings first events event)
   unfolding IsSoundAfter
-  next-sound events event sound =
-      let Good = HasAcceptedQuery settings first (events ++ event ∷ []) in
-      subst (λ (run : Run). IsSound Good settings.relay (last_request settings first (events ++ event ∷ [])) run.exchange) (sym (run_of-append settings first events event))
-      (subst (λ (asked : Option ℕ). IsSound Good settings.relay asked (answer_after settings first events event).next) (sym (last_request-append settings first events event))
-      (answer-sound events event sound).next)
+  answer-sound events event is = (lawful events event).sound (record {
+    relay = is.relay;
+    query = is.query;
+    kept = is.kept;
+    request = is.request;
+    by = query-before settings first events event (run_of settings first events).exchange.query is.by;
+  })
 
-  more-sound : (before later : List GatewayEvent) → IsSoundAfter settings first before → IsSoundAfter settings first (before ++ later)
-  more-sound before [] sound = subst (IsSoundAfter settings first) (sym (append-nil before)) sound
-  more-sound before (event ∷ later) sound =
-      subst (IsSoundAfter settings first) (append_assoc before (event ∷ []) later) (more-sound (before ++ event ∷ []) later (next-sound before event sound))
+  more-sound : (before later : List GatewayEvent) → IsSoundAfter before → IsSoundAfter (before ++ later)
+  unfolding IsSoundAfter
+  more-sound before [] is = subst IsSoundAfter (sym (append-nil before)) is
+  more-sound before (event ∷ later) is =
+      let Good = IsGood (before ++ event ∷ []) in
+      let next : IsSoundAfter (before ++ event ∷ []) =
+      subst (λ (run : Run). IsSound Good settings (last_request settings first (before ++ event ∷ [])) run.exchange) (sym (run_of-append settings first before event))
+      (subst (λ (asked : Option ℕ). IsSound Good settings asked (answer_after settings first before event).next) (sym (last_request-append settings first before event)) (answer-sound before event is).next) in
+      subst IsSoundAfter (append_assoc before (event ∷ []) later) (more-sound (before ++ event ∷ []) later next)
 
-  pub run-sound : (events : List GatewayEvent) → IsSoundAfter settings first events
-  run-sound events = more-sound [] events start-sound
+  pub run-sound : (events : List GatewayEvent) → IsSoundAfter events
+  unfolding IsSoundAfter
+  run-sound events = more-sound [] events (rw (run_of-nil settings first) (record { relay = tt; query = tt; kept = λ peer set. (set, tt); request = tt; by = tt }))
+
+  -- where each message goes, by the relay after the event
+  pub directed : (events : List GatewayEvent) (event : GatewayEvent)
+      → All (IsDirected settings (run_of settings first (events ++ event ∷ [])).exchange.relay) (answer_after settings first events event).sends
+  directed events event =
+      let answer = answer_after settings first events event in
+      subst (λ (run : Run). All (IsDirected settings run.exchange.relay) answer.sends) (sym (run_of-append settings first events event))
+      (All-weaker (IsFit (IsGood (events ++ event ∷ [])) settings answer.next.relay) (IsDirected settings answer.next.relay) (λ sending is. is.0) answer.sends (answer-sound events event (run-sound events)).sends)
 
   pub relay-is-known : (events : List GatewayEvent) → HasRelay (run_of settings first events).exchange.state (run_of settings first events).exchange.relay
   unfolding IsSoundAfter

@@ -1,4 +1,4 @@
-use Rattle.gateway_machine.proofs.WantedPackets.{wanted}
+use Rattle.gateway_machine.proofs.SoundRuns.{wanted}
 use Rattle.gateway_machine.proofs.laws.packets_are_wanted.Goals as goal
 
 pub returns : goal.returns

@@ -1,4 +1,4 @@
-use Rattle.gateway_machine.proofs.Directed.{directed}
+use Rattle.gateway_machine.proofs.SoundRuns.{directed}
 use Rattle.gateway_machine.proofs.laws.sends_go_to_the_relay.Goals as goal
 
 pub returns : goal.returns

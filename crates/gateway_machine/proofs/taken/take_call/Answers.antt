@@ -1,6 +1,6 @@
 use Rattle.std.proofs.Common.{◌≡◌, Bool, List, Some, None, subst}
 use Rattle.socket_merge.specs.{History.{AcceptedCall, SocketCall, with_call}, Refusal.{refusal_of}, Sockets.{SocketsHold, SocketsValue}}
-use Rattle.gateway_machine.{specs.{Answers.{accepted_answer, is_opening}, Calls.{AnswersCall}, State.{IsReply, IsTakenCall}, declared.{exchange.Exchange.{Exchange}, reply.Reply.{Reply}, settings.GatewaySettings.{GatewaySettings}}}, proofs.Steady.{heeded_accepted}}
+use Rattle.gateway_machine.{specs.{Answers.{accepted_answer, is_opening}, Calls.{AnswersCall}, State.{IsReply, IsTakenCall}, declared.{exchange.Exchange.{Exchange}, reply.Reply.{Reply}, settings.GatewaySettings.{GatewaySettings}}}, proofs.Lawful.{accepted-lawful}}
 use Rattle.gateway_machine.proofs.taken.take_call.Goals as goal
 
 -- the reply to an accepted call, with the sockets after it
@@ -9,8 +9,8 @@ taken_call : (settings : GatewaySettings) (exchange : Exchange) (history : List 
     → IsReply (accepted_answer exchange.state opening settings exchange history (with_call exchange.moment call history)) reply
     → IsTakenCall settings exchange history call (record { step = reply.step; next = reply.next; sockets = Some after })
 taken_call settings exchange history call opening reply after opens accepted is =
-    let heeded = heeded_accepted exchange.state opening settings exchange history (with_call exchange.moment call history) in
-    rw (accepted.0, opens) (record { step = is.step; next = is.next; sockets = accepted.1; refused = λ refused. absurd (heeded.heeded refused) })
+    let heeded = accepted-lawful (λ mac nonce. Unit {0}) (λ packet. Unit {0}) (λ left. ⊥) settings None exchange.state opening exchange history (with_call exchange.moment call history) in
+    rw (accepted.0, opens) (record { step = is.step; next = is.next; sockets = accepted.1; refused = λ refused. absurd (heeded.refused refused) })
 
 pub returns-clause-taken : goal.returns-clause-taken
 returns-clause-taken c history held call opens answers =

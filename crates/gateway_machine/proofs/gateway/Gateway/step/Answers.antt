@@ -1,6 +1,6 @@
 use Rattle.std.proofs.Common.{◌∙◌, ◌≡◌, Option, sym, subst, ap, refl}
 use Rattle.socket_merge.specs.Sockets.{SocketsValue}
-use Rattle.gateway_machine.{specs.State.{AreOfSettings, HasHistory, IsAtMoment}, proofs.{Onward.{GatewayAt-after, at_moment-after, exchange-same, has_history-after, of_settings-after, same_gateway, sockets-same, sockets_by, taken-after}, Authorized.{authorized-sends}, WantedPackets.{wanted}}}
+use Rattle.gateway_machine.{specs.State.{AreOfSettings, HasHistory, IsAtMoment}, proofs.{Onward.{GatewayAt-after, at_moment-after, exchange-same, has_history-after, of_settings-after, same_gateway, sockets-same, sockets_by, taken-after}, Authorized.{authorized-sends}, SoundRuns.{wanted}}}
 use Rattle.gateway_machine.proofs.gateway.Gateway.step.Goals as goal
 
 -- where the sockets stay
