@@ -1,9 +1,11 @@
--- Courses with one more event, and the gateways of a course.
-use Rattle.std.{proofs.{Common.{◌≡◌, Bool, true, false, List, [], ◌∷◌, ◌++◌, map, if◌then◌else◌, Option, None, Some, refl, ap, ◌∙◌}, lemmas.List.Sums.{fold-append}}, specs.List.{fold}}
+-- Where schedules lead: what each event leaves holds after every schedule. The gateways of a course are those of its
+-- setup, and its entries are the relay's accepted log.
+use Rattle.std.{proofs.{Common.{◌≡◌, ℕ, max, Bool, true, false, List, [], ◌∷◌, ◌++◌, map, fold, filter_map, if◌then◌else◌, Option, None, Some, refl, sym, ap, ◌∙◌}, lemmas.List.{map-append, Elements.{filter_map-append}, Sums.{fold-append}}}, specs.List.{cons_option}}
+use Rattle.endpoint_membership.specs.declared.change.Change.{Change}
 use Rattle.gateway_machine.specs.declared.event.GatewayEvent.{GatewayEvent, TheVariants.{Moment as Passes}}
-use Rattle.relay_machine.specs.declared.sends.OneSend.{OneSend}
-use Rattle.amt_pair.specs.{Schedule.{Course, Member, Upward, course_of, delivery_down, down_delivered, has_name, is_at, numbered, start, up_delivered, with_gateway_event, with_pair_event}, Setup.{Host, PairSetup}}
-use Rattle.amt_pair.{specs.{State.{StandsFor, hosts_of}, declared.{event.PairEvent.{PairEvent, TheVariants.{Down, Moment as MomentForAll, Packet as PacketComes, Rotate as SecretComes, Socket, Up}}, pair.Pair.{Pair}}}, proofs.MembersAt.{host_at, hosts_are}}
+use Rattle.relay_machine.{specs.{Accepted.{accepted_back, accepted_log, entry_of, with_change}, Events.{moment_in, now_of}, declared.{event.Event.{Event, TheVariants.{Moment, Packet, Rotate}}, sends.OneSend.{OneSend}}}, proofs.Onward.{accepted-push}}
+use Rattle.amt_pair.specs.Schedule.{Course, Entry, Member, Upward, course_of, delivery_down, delivery_up, down_delivered, has_name, is_at, numbered, start, up_delivered, with_entry, with_gateway_event, with_member_event, with_pair_event, with_relay_event}
+use Rattle.amt_pair.{specs.{Setup.{Host, PairSetup}, State.{StandsFor, hosts_of}, declared.{event.PairEvent.{PairEvent, TheVariants.{Down, Moment as MomentForAll, Packet as PacketComes, Rotate as SecretComes, Socket, Up}}, pair.Pair.{Pair}}}, proofs.MembersAt.{host_at, hosts_are}}
 
 -- one more event
 pub course_of-more : (setup : PairSetup) (schedule : List PairEvent) (event : PairEvent)
@@ -16,43 +18,52 @@ pub course_of-none : (setup : PairSetup) → course_of setup [] ≡ start setup
 unfolding course_of
 course_of-none setup = refl
 
--- a gateway that an event may have reached
-abbrev reached : GatewayEvent → Bool → Member → Member
-reached event reaches member = if reaches then with_gateway_event event member else member
+-- what holds at the start, and what an event leaves of the relay and of gateways, holds after every schedule
+module _ (setup : PairSetup) (Fact : Course → Type 0)
+    (relay : (by : Option Upward) (event : Event) (course : Course) → Fact course → Fact (with_relay_event setup by event course))
+    (gateways : (event : GatewayEvent) (reaches : Member → Bool) (course : Course) → Fact course → Fact (with_member_event event reaches course)) where
+  kept-up : (found : Option Upward) (course : Course) → Fact course → Fact (up_delivered setup found course)
+  kept-up None course fact = fact
+  kept-up (Some upward) course fact = relay (Some upward) (delivery_up upward) course fact
 
-reached_host : (event : GatewayEvent) (reaches : Bool) (member : Member) → host_at (reached event reaches member) ≡ host_at member
-reached_host event true member = refl
-reached_host event false member = refl
+  kept-down : (found : Option OneSend) (course : Course) → Fact course → Fact (down_delivered setup found course)
+  kept-down None course fact = fact
+  kept-down (Some send) course fact = gateways (delivery_down setup send) (is_at send.to) course fact
 
-reached_hosts : (event : GatewayEvent) (reaches : Member → Bool) (members : List Member)
-    → map host_at (map (λ member. reached event (reaches member) member) members) ≡ map host_at members
+  kept-event : (event : PairEvent) (course : Course) → Fact course → Fact (with_pair_event setup course event)
+  kept-event (MomentForAll at) course fact = gateways (Passes at) (λ member. true) _ (relay None (Moment at) course fact)
+  kept-event (SecretComes secret) course fact = relay None (Rotate secret) course fact
+  kept-event (PacketComes bytes) course fact = relay None (Packet bytes) course fact
+  kept-event (Socket name event) course fact = gateways event (has_name name) course fact
+  kept-event (Up number) course fact = kept-up (numbered course.up number) course fact
+  kept-event (Down number) course fact = kept-down (numbered course.down number) course fact
+
+  kept-along : (schedule : List PairEvent) (course : Course) → Fact course → Fact (fold (with_pair_event setup) course schedule)
+  kept-along [] course fact = fact
+  kept-along (event ∷ later) course fact = kept-along later (with_pair_event setup course event) (kept-event event course fact)
+
+  kept-after : Fact (start setup) → (schedule : List PairEvent) → Fact (course_of setup schedule)
+  unfolding course_of
+  kept-after fact schedule = kept-along schedule (start setup) fact
+
+-- ---- the gateways
+
+-- the gateway with an event, if it reaches it
+abbrev pub if_reached : GatewayEvent → (Member → Bool) → Member → Member
+if_reached event reaches member = if reaches member then with_gateway_event event member else member
+
+-- what such an event leaves of a gateway
+pub reached-kept : (Fact : Member → Type 0) (event : GatewayEvent) (reached : Bool) (member : Member) → (Fact member → Fact (with_gateway_event event member)) → Fact member
+    → Fact (if reached then with_gateway_event event member else member)
+reached-kept Fact event true member onward fact = onward fact
+reached-kept Fact event false member onward fact = fact
+
+reached_hosts : (event : GatewayEvent) (reaches : Member → Bool) (members : List Member) → map host_at (map (if_reached event reaches) members) ≡ map host_at members
 reached_hosts event reaches [] = refl
 reached_hosts event reaches (member ∷ members) =
-    let first = reached_host event (reaches member) member in
+    let first = reached-kept (λ one. host_at one ≡ host_at member) event (reaches member) member (λ same. same) refl in
     let rest = reached_hosts event reaches members in
     cc
-
-up_hosts : (setup : PairSetup) (upward : Option Upward) (course : Course) → map host_at (up_delivered setup upward course).members ≡ map host_at course.members
-up_hosts setup None course = refl
-up_hosts setup (Some upward) course = refl
-
-down_hosts : (setup : PairSetup) (send : Option OneSend) (course : Course) → map host_at (down_delivered setup send course).members ≡ map host_at course.members
-down_hosts setup None course = refl
-down_hosts setup (Some send) course = reached_hosts (delivery_down setup send) (is_at send.to) course.members
-
--- no event adds a gateway, or takes one away
-event_hosts : (setup : PairSetup) (course : Course) (event : PairEvent) → map host_at (with_pair_event setup course event).members ≡ map host_at course.members
-event_hosts setup course (MomentForAll at) = reached_hosts (Passes at) (λ member. true) course.members
-event_hosts setup course (SecretComes secret) = refl
-event_hosts setup course (PacketComes bytes) = refl
-event_hosts setup course (Socket name event) = reached_hosts event (has_name name) course.members
-event_hosts setup course (Up number) = up_hosts setup (numbered course.up number) course
-event_hosts setup course (Down number) = down_hosts setup (numbered course.down number) course
-
-hosts_along : (setup : PairSetup) (schedule : List PairEvent) (course : Course)
-    → map host_at (fold (with_pair_event setup) course schedule).members ≡ map host_at course.members
-hosts_along setup [] course = refl
-hosts_along setup (event ∷ schedule) course = hosts_along setup schedule (with_pair_event setup course event) ∙ event_hosts setup course event
 
 start_hosts : (hosts : List Host) → map host_at (map (λ host. record { host = host; events = [] }) hosts) ≡ hosts
 start_hosts [] = refl
@@ -60,10 +71,59 @@ start_hosts (host ∷ hosts) = ap (λ (rest : List Host). host ∷ rest) (start_
 
 -- the gateways of a course are those of its setup
 pub course_hosts : (setup : PairSetup) (schedule : List PairEvent) → map host_at (course_of setup schedule).members ≡ setup.hosts
-unfolding course_of
-course_hosts setup schedule = hosts_along setup schedule (start setup) ∙ start_hosts setup.hosts
+course_hosts setup schedule =
+    kept-after setup (λ course. map host_at course.members ≡ setup.hosts) (λ by event course same. same)
+    (λ event reaches course same. reached_hosts event reaches course.members ∙ same) (start_hosts setup.hosts) schedule
 
 -- and so are those of the pair
 pub pair_hosts : (pair : Pair) (setup : PairSetup) (schedule : List PairEvent) → StandsFor pair setup (course_of setup schedule) → hosts_of pair ≡ setup.hosts
 pair_hosts pair setup schedule stands =
     hosts_are pair.gateways (course_of setup schedule).members stands.gateways ∙ course_hosts setup schedule
+
+-- ---- the moment
+
+-- the moment after one that is reported, or that isn't
+abbrev pub later_by : Option ℕ → ℕ → ℕ
+later_by None now = now
+later_by (Some at) now = max now at
+
+later-fold : (reported : Option ℕ) (now : ℕ) → fold max now (cons_option reported []) ≡ later_by reported now
+later-fold None now = refl
+later-fold (Some at) now = refl
+
+-- how late it is at the relay after one more event
+pub now_of-push : (events : List Event) (event : Event) → now_of (events ++ event ∷ []) ≡ later_by (moment_in event) (now_of events)
+unfolding now_of
+now_of-push events event =
+    ap (fold max 0) (filter_map-append moment_in events (event ∷ []))
+    ∙ fold-append max 0 (filter_map moment_in events) (filter_map moment_in (event ∷ []))
+    ∙ later-fold (moment_in event) (fold max 0 (filter_map moment_in events))
+
+pub now_of-nil : now_of [] ≡ 0
+unfolding now_of
+now_of-nil = refl
+
+-- ---- the entries
+
+-- the changes of entries
+abbrev pub changes_of : List Entry → List Change
+changes_of entries = map (λ entry. entry.change) entries
+
+changes_of-with_entry : (entries : List Entry) (by : Option Upward) (found : Option Change) → changes_of (with_entry entries by found) ≡ with_change (changes_of entries) found
+changes_of-with_entry entries by None = refl
+changes_of-with_entry entries by (Some change) = map-append (λ (entry : Entry). entry.change) entries (record { by = by; change = change } ∷ [])
+
+logged-start : (setup : PairSetup) → [] ≡ accepted_log setup.settings setup.secret []
+unfolding accepted_back
+logged-start setup = refl
+
+-- the entries are those of the accepted log, after every schedule
+pub logged-after : (setup : PairSetup) (schedule : List PairEvent)
+    → changes_of (course_of setup schedule).entries ≡ accepted_log setup.settings setup.secret (course_of setup schedule).relay
+logged-after setup schedule =
+    kept-after setup (λ course. changes_of course.entries ≡ accepted_log setup.settings setup.secret course.relay)
+    (λ by event course logged.
+    changes_of-with_entry course.entries by (entry_of setup.settings setup.secret course.relay event)
+    ∙ ap (λ (log : List Change). with_change log (entry_of setup.settings setup.secret course.relay event)) logged
+    ∙ sym (accepted-push setup.settings setup.secret course.relay event))
+    (λ event reaches course logged. logged) (logged-start setup) schedule

@@ -2,7 +2,7 @@
 use Rattle.std.{proofs.{Common.{◌≡◌, Bool, true, false, cond, List, [], ◌∷◌, ◌++◌, map, reverse, flat_map, All, Option, None, refl, ap, ◌∙◌, append-nil}, lemmas.{Bool.{cond-false, cond-true}, List.{reverse-append, Concat.{flat_map-append}, Elements.{All-head, All-tail, filter-append, filter_map-append}}}}, specs.List.{cons_option, filter, filter_map}}
 use Rattle.amt_values.specs.declared.peer.Peer.{Peer}
 use Rattle.gateway_machine.specs.{Answers.{same_peer}, declared.event.GatewayEvent.{GatewayEvent}}
-use Rattle.amt_pair.{specs.{Agreement.{report_from}, Schedule.{Member, Upward, run_of_member, upwards_on}, Sent.{Sent, SentReport, report_of, sent_on}}, proofs.{HeardQueries.{same_peer-itself}, Turns.{reports_on}}}
+use Rattle.amt_pair.{specs.{Agreement.{report_from}, Schedule.{Member, Upward, run_of_member, upwards_on}, Sent.{Sent, SentReport, report_of, sent_on}}, proofs.{HeardQueries.{same_peer-itself}, Tunnel.{reports_on}}}
 
 -- the reports that a peer sent, newest first
 abbrev pub reports_from : Peer → List Upward → List SentReport

@@ -7,7 +7,7 @@ use Rattle.group_records.specs.{Written.{HasFittingAddresses, IsOfFamily, report
 use Rattle.socket_merge.specs.{Changes.{change_records}, History.{AcceptedCall, latest}}
 use Rattle.gateway_machine.specs.{Reports.{full_records, report_datagram, same_endpoint, teardown, teardown_by, teardown_if, update, update_by}, Sends.{Sending, to_relay}, Settings.{HasSourceOfFamily, family_of}, Timing.{farewell_ms}, declared.{exchange.{Exchange.{Exchange}, LastQuery.{LastQuery}}, settings.GatewaySettings.{GatewaySettings}}}
 use Rattle.relay_machine.specs.Updates.{report_in}
-use Rattle.amt_pair.{specs.Sent.{Sent, SentReport, report_of}, proofs.{AcceptedCalls.{AreAccepted}, ChangeLimits.{short-change}, OpenSockets.{HaveFilters}, ReadReports.{report_in-report_datagram}, ReportLimits.{short_reports}, ReportedAddresses.{MayStand, changed-may_stand, full-may_stand}, Tunnel.{Made, send}, Turns.{tunnel_of}}}
+use Rattle.amt_pair.{specs.Sent.{Sent, SentReport, report_of}, proofs.{AcceptedCalls.{AreAccepted}, ChangeLimits.{short-change}, OpenSockets.{HaveFilters}, ReadReports.{report_in-report_datagram}, ReportLimits.{short_reports}, ReportedAddresses.{MayStand, changed-may_stand, full-may_stand}, Tunnel.{see, send}}}
 
 -- the reports among these messages, in order, by the exchange and the socket calls after the event
 abbrev pub reports_in : Exchange → List AcceptedCall → List Sending → List SentReport
@@ -111,14 +111,8 @@ module _ (exchange : Exchange) (history : List AcceptedCall) where
   reports-teardown None seen earlier = refl
   reports-teardown (Some last) seen earlier = reports-teardown_by last.seen seen earlier last
 
-  -- ---- the tunnel after reports
-
-  pub reverse-reported : (full : Bool) (records : List Record) → reverse (reported exchange history full records) ≡ reported exchange history full records
-  reverse-reported full [] = refl
-  reverse-reported full (first ∷ more) = refl
-
   -- a tunnel that sends these records
-  pub send-is : (reports : List SentReport) (made : List Made) (full : Bool) (records : List Record)
-      → send (tunnel_of exchange history reports made) full records ≡ tunnel_of exchange history (reported exchange history full records ++ reports) made
-  send-is reports made full [] = refl
-  send-is reports made full (first ∷ more) = refl
+  pub send-is : (reports : List SentReport) (full : Bool) (records : List Record)
+      → send (see exchange history reports) full records ≡ see exchange history (reverse (reported exchange history full records) ++ reports)
+  send-is reports full [] = refl
+  send-is reports full (first ∷ more) = refl

@@ -1,11 +1,11 @@
 -- What a schedule shows of a gateway that was heard is told of its tunnel.
-use Rattle.std.{proofs.{Common.{◌≡◌, ℕ, ◌≤◌, max, cond, List, [], ◌∷◌, ◌++◌, map, reverse, All, Contains, Option, Some, None, refl, sym, ap, subst, ◌∙◌, arith, inl, inr}, lemmas.{Bool.{cases_Bool, cond-false, cond-true}, List.{map-append, reverse-reverse, Elements.{All-contains}}}}, specs.List.{filter, filter_map}}
+use Rattle.std.{proofs.{Common.{◌≡◌, ℕ, max, cond, List, [], ◌∷◌, map, reverse, All, Contains, Option, Some, None, refl, sym, ap, subst, ◌∙◌, arith, inl, inr}, lemmas.{Bool.{cases_Bool, cond-false, cond-true}, List.{reverse-reverse, Elements.{All-contains}}}}, specs.List.{filter, filter_map}}
 use Rattle.amt_values.specs.{EndpointValue.{EndpointValue}, declared.{address.Ip.{Ip}, peer.Peer.{Peer}}}
 use Rattle.endpoint_membership.specs.{GroupFilter.{records_admit}, Log.{brought, latest, live_chain}, declared.change.Change.{Change, TheVariants.{Reported}}}
 use Rattle.gateway_machine.specs.Laws.{last_of}
 use Rattle.relay_machine.{specs.{Accepted.{accepted_log}, Events.{now_of}, Settings.{membership_interval_ms}}, proofs.PublishedLog.{latest-accepted_log}}
-use Rattle.amt_pair.{specs.{Agreement.{IsHeard, IsLastEntry, full_reports, is_of_endpoint, relay_admits, report_from}, Schedule.{Entry, Member, Upward, course_of}, Sent.{SentReport}, Setup.{PairSetup}, declared.event.PairEvent.{PairEvent}}, proofs.{CourseLog.{changes_of}, CourseSteps.{Stands}}}
-use Rattle.amt_pair.proofs.{Follows.{made_for, made_of, member_of, report_by, shown}, HeardQueries.{same_peer-itself}, Listed.{last-passing, middle-cases, reverse-cons}, PeerReports.{IsOther, reports_from}, Tunnel.{IsTold, Made, Tunnel, admits_at, after, entries_of, last_by, last_made, latest_full}, TunnelMade.{in_group}}
+use Rattle.amt_pair.{specs.{Agreement.{IsHeard, IsLastEntry, full_reports, is_of_endpoint, relay_admits, report_from}, Schedule.{Entry, Member, Upward, course_of}, Sent.{SentReport}, Setup.{PairSetup}, declared.event.PairEvent.{PairEvent}}, proofs.{Courses.{logged-after}}}
+use Rattle.amt_pair.proofs.{Follows.{Stands, changes_made-for, made_for, made_of, member_of, report_by, shown}, HeardQueries.{same_peer-itself}, Listed.{last-passing, middle-cases}, PeerReports.{IsOther, reports_from}, TunnelAgrees.{IsTold, admits_at}, TunnelEntries.{in_group, last_by, last_made}, TunnelReports.{latest_full}}
 
 -- ---- the latest full report
 
@@ -52,27 +52,10 @@ last-told peer endpoint entries report at last =
     last-of peer endpoint (reverse entries) entry (order ∙ last.last)
     ∙ ap (λ (found : Option SentReport). last_by found at) last.made_by
 
--- ---- the log
-
-changes-made : (peer : Peer) (entries : List Entry) → map (λ (made : Made). made.change) (map (made_of peer) entries) ≡ changes_of entries
-changes-made peer [] = refl
-changes-made peer (entry ∷ entries) = ap (λ (rest : List Change). entry.change ∷ rest) (changes-made peer entries)
-
-changes-reverse : (entries : List Entry) → changes_of (reverse entries) ≡ reverse (changes_of entries)
-changes-reverse [] = refl
-changes-reverse (entry ∷ entries) =
-    ap changes_of (reverse-cons entry entries)
-    ∙ map-append (λ (one : Entry). one.change) (reverse entries) (entry ∷ [])
-    ∙ ap (λ (rest : List Change). rest ++ entry.change ∷ []) (changes-reverse entries)
-    ∙ sym (reverse-cons entry.change (changes_of entries))
-
-latest-now : (now newest : ℕ) → newest ≤ now → max now newest ≡ now
-latest-now now newest early = omega arith
-
 -- ---- the gateway that was heard
 
 module _ (setup : PairSetup) (schedule : List PairEvent) (member : Member) (endpoint : EndpointValue) (InTime : Type 0)
-    (among : Contains (course_of setup schedule).members member) (stands : Stands setup member.host endpoint InTime (course_of setup schedule)) where
+    (among : Contains (course_of setup schedule).members member) (stands : Stands setup member.host endpoint InTime (now_of (course_of setup schedule).relay) (course_of setup schedule)) where
   not-other : (members : List Member) → All (IsOther member.host.peer) members → Contains members member → ⊥
   not-other members others in_list =
       let other = All-contains (IsOther member.host.peer) members member others in_list in
@@ -81,44 +64,34 @@ module _ (setup : PairSetup) (schedule : List PairEvent) (member : Member) (endp
   -- the events are the member's own
   pub member-is : member_of member.host stands.events ≡ member
   member-is =
-      let placed = stands.follows.placed in
+      let placed = stands.placed in
       elim (middle-cases placed.before placed.after (member_of member.host stands.events) member (subst (λ (all : List Member). Contains all member) placed.whole among)) [
         | inl before ↦ absurd (not-other placed.before placed.others_before before)
         | inr (inl same) ↦ same
         | inr (inr later) ↦ absurd (not-other placed.after placed.others_after later)
       ]
 
-  shown-told : (report : SentReport) → (heard : IsHeard setup schedule member endpoint report)
-      → IsTold (membership_interval_ms setup.settings) endpoint (shown member.host stands.events (course_of setup schedule)) heard.at report
-  shown-told report heard = record {
+  -- what is told of the tunnel
+  pub told : (report : SentReport) → (heard : IsHeard setup schedule member endpoint report)
+      → IsTold (membership_interval_ms setup.settings) endpoint (shown member.host stands.events (course_of setup schedule)) (made_for member.host.peer (course_of setup schedule).entries) heard.at report
+  told report heard = record {
     latest = latest-from member.host.peer (course_of setup schedule).up ∙ heard.latest;
     last = last-told member.host.peer endpoint (course_of setup schedule).entries report heard.at heard.last;
-    fresh = let fresh = heard.fresh in let moment = stands.moment in omega arith;
+    fresh = let fresh = heard.fresh in let moment = stands.run.moment_is in omega arith;
   }
 
-  -- the report is told of the tunnel after the turns
-  pub told : (report : SentReport) → (heard : IsHeard setup schedule member endpoint report)
-      → IsTold (membership_interval_ms setup.settings) endpoint (after endpoint stands.follows.turns_are) heard.at report
-  told report heard =
-      subst (λ (tunnel : Tunnel). IsTold (membership_interval_ms setup.settings) endpoint tunnel heard.at report) (sym stands.follows.same) (shown-told report heard)
-
-  entries-are : entries_of (shown member.host stands.events (course_of setup schedule)) ≡ reverse (accepted_log setup.settings setup.secret (course_of setup schedule).relay)
-  entries-are =
-      changes-made member.host.peer (reverse (course_of setup schedule).entries)
-      ∙ changes-reverse (course_of setup schedule).entries
-      ∙ ap (λ (log : List Change). reverse log) stands.logged
-
   -- what the relay admits is what is admitted at the tunnel
-  pub admits-same : (group source : Ip)
-      → relay_admits setup schedule endpoint group source ≡ admits_at (membership_interval_ms setup.settings) endpoint (after endpoint stands.follows.turns_are) group source
+  pub admits-same : (group source : Ip) → relay_admits setup schedule endpoint group source
+      ≡ admits_at (membership_interval_ms setup.settings) endpoint (shown member.host stands.events (course_of setup schedule)).moment
+      (made_for member.host.peer (course_of setup schedule).entries) group source
   admits-same group source =
       let lifetime = membership_interval_ms setup.settings in
-      let log = accepted_log setup.settings setup.secret (course_of setup schedule).relay in
-      let now = now_of (course_of setup schedule).relay in
-      let tunnel = shown member.host stands.events (course_of setup schedule) in
-      let moment = stands.moment in
-      let newest = latest-accepted_log setup.settings setup.secret (course_of setup schedule).relay in
-      let early : latest log ≤ now = omega (arith, newest) in
-      ap (λ (at : ℕ). records_admit (live_chain lifetime (in_group endpoint group) at (reverse log)) source) (latest-now now (latest log) early ∙ sym moment)
-      ∙ ap (λ (entries : List Change). records_admit (live_chain lifetime (in_group endpoint group) tunnel.moment entries) source) (sym entries-are)
-      ∙ ap (λ (one : Tunnel). admits_at lifetime endpoint one group source) (sym stands.follows.same)
+      let course = course_of setup schedule in
+      let log = accepted_log setup.settings setup.secret course.relay in
+      let now = now_of course.relay in
+      let newest = latest-accepted_log setup.settings setup.secret course.relay in
+      let moment = stands.run.moment_is in
+      let same : max now (latest log) ≡ (shown member.host stands.events course).moment = omega arith in
+      ap (λ (at : ℕ). records_admit (live_chain lifetime (in_group endpoint group) at (reverse log)) source) same
+      ∙ ap (λ (entries : List Change). records_admit (live_chain lifetime (in_group endpoint group) (shown member.host stands.events course).moment entries) source)
+      (sym (changes_made-for member.host.peer course.entries ∙ ap (λ (all : List Change). reverse all) (logged-after setup schedule)))
