@@ -18,7 +18,6 @@ pub mod HoldsAfter
 pub mod KeptFilters
 pub mod KeysTogether
 pub mod LimitByOwn
-pub mod LimitOrder
 pub mod LiveChain
 pub mod LiveEndpoints
 pub mod LongestChain
@@ -34,7 +33,6 @@ pub mod RenewedTogether
 pub mod ReplacedFilters
 pub mod ReportBounds
 pub mod ReportFits
-pub mod RowsAdmit
 pub mod SetAt
 pub mod SetTogether
 pub mod TargetsByLog
