@@ -4,7 +4,6 @@ pub mod AfterReport
 pub mod Clearings
 pub mod CountedLive
 pub mod CountedParts
-pub mod CountedRows
 pub mod EndpointGroupOrder
 pub mod EndpointRange
 pub mod EnoughRecords
@@ -19,7 +18,6 @@ pub mod KeptFilters
 pub mod KeysTogether
 pub mod LimitByOwn
 pub mod LiveChain
-pub mod LiveEndpoints
 pub mod LongestChain
 pub mod MembershipAt
 pub mod MembershipIn
@@ -34,6 +32,5 @@ pub mod ReplacedFilters
 pub mod ReportBounds
 pub mod ReportFits
 pub mod SetAt
-pub mod SetTogether
 pub mod TargetsByLog
 pub mod WithinLimits

@@ -4,7 +4,7 @@ use Rattle.std.{proofs.lemmas.{List.Elements.{filter-append, filter_map-append},
 use Rattle.amt_values.specs.{EndpointValue.{EndpointValue}, Ascending.{IsAscending}}
 use Rattle.endpoint_membership.specs.{EndpointGroup.{EndpointGroup}, Filters.{membership_with}, Limits.{live_count}, Membership.{Membership, endpoint_group_of, membership_order}}
 use Rattle.endpoint_membership.{specs.{Memberships.{membership_in, row_of}, Stored.{ends_with, only}, declared.{row.Row.{Row}, stored.StoredFilter.{StoredFilter}}}, proofs.AfterEntries.{IsAscending-prefix}}
-use Rattle.endpoint_membership.proofs.{LiveEndpoints.{filter-push_yes, last_of, last_of-push, more_live}, MembershipIn.{GivesItsEndpointGroup-membership_in, all_found}}
+use Rattle.endpoint_membership.proofs.{CountedLive.{filter-push_yes, last_of, last_of-push, more_live}, MembershipIn.{GivesItsEndpointGroup-membership_in, all_found}}
 
 -- the memberships of these pairs
 abbrev pub memberships_of : List Membership → List EndpointGroup → List Membership
