@@ -11,7 +11,6 @@ pub mod Expiry
 pub mod FewRows
 pub mod FilterByRecords
 pub mod FilterMap
-pub mod GonePairs
 pub mod GroupMembers
 pub mod HoldsAfter
 pub mod KeptFilters
@@ -28,7 +27,6 @@ pub mod PairsWalked
 pub mod PartOrders
 pub mod PublishedLog
 pub mod RenewedTogether
-pub mod ReplacedFilters
 pub mod ReportBounds
 pub mod ReportFits
 pub mod SetAt
