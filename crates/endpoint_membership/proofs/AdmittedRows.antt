@@ -3,7 +3,7 @@ use Rattle.std.proofs.Common.{◌≡◌, ℕ, ◌≤◌, ◌&&◌, ◌||◌, Boo
 use Rattle.amt_values.specs.{EndpointValue.{EndpointValue}, declared.address.Ip.{Ip}}
 use Rattle.source_filter.specs.Filter.{admits}
 use Rattle.endpoint_membership.specs.{Admission.{is_admitted, rows_admit}, EndpointGroup.{EndpointGroup, same_endpoint_group}, Log.{latest}, Membership.{Membership, endpoint_group_of}, Memberships.{membership_at, membership_in, memberships_at, row_of, rows_of}, Stored.{only}}
-use Rattle.endpoint_membership.{specs.declared.change.Change.{Change}, proofs.{EndpointGroupOrder.{same_endpoint_group-is}, MembershipIn.{membership_in-cond, membership_in-filter}, MembershipsByLog.{AreMembershipsAt-memberships_at}, RowsAdmit.{admits-none, admits-row}, TargetsByLog.{is_some-cond}}}
+use Rattle.endpoint_membership.{specs.declared.change.Change.{Change}, proofs.{EndpointGroupOrder.{same_endpoint_group-is}, MembershipIn.{membership_in-cond, membership_in-filter}, MembershipsByLog.{AreMembershipsAt-memberships_at}, MembershipAt.{admits-none, admits-row}, TargetsByLog.{is_some-cond}}}
 
 -- some membership passes both tests where one that passes the first is found among those that pass the other
 both-by : (first second : Bool) (membership : Membership) (rest : Option Membership) → ((first && second) || is_some rest) ≡ is_some (cond second (cond first (Some membership) rest) rest)

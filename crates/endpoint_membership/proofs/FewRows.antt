@@ -2,7 +2,7 @@
 use Rattle.std.proofs.Common.{◌≡◌, ℕ, ◌*◌, ◌≤◌, Bool, true, false, cond, not, ◌||◌, List, [], ◌∷◌, filter, length, map, sum_by, refl, ap, ◌∙◌, arith}
 use Rattle.std.{specs.List.{AllByRecursion}, proofs.{Math.Nat.{mul-le-mul, suc-mul}, lemmas.{Bool.{or_right}, Cmp.{eq_by_cmp_equiv}, List.{length-map, Filters.{length-filter_both}, Sums.{length-filter, sum_by-cons}}}}}
 use Rattle.amt_values.{specs.{Order.{endpoint_order}, EndpointValue.{EndpointValue}, Ascending.{has, ascending}}, proofs.{Orders.{endpoint_order-total}, AscendingLaws.{has-ascending}}}
-use Rattle.endpoint_membership.{specs.{Limits.{AreFew, IsWithin, group_count, live_count, size}, EndpointGroup.{same_endpoint}, Memberships.{row_of}, Membership.{Membership}, Stored.{is_of_another}, declared.limits.Limits.{Limits}}, proofs.{CountedLive.{endpoints_of}, CountedRows.{group_count-filter}}}
+use Rattle.endpoint_membership.{specs.{Limits.{AreFew, IsWithin, group_count, live_count, size}, EndpointGroup.{same_endpoint}, Memberships.{row_of}, Membership.{Membership}, Stored.{is_of_another}, declared.limits.Limits.{Limits}}, proofs.{CountedLive.{endpoints_of, group_count-filter}}}
 
 -- each membership's endpoint is among these
 abbrev AreAmong : List EndpointValue → List Membership → Type 0

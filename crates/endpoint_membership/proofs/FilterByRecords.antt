@@ -1,7 +1,7 @@
 -- Applying records one by one leaves the filter that they make together.
-use Rattle.std.proofs.{Common.{◌≡◌, Bool, true, false, not, ◌&&◌, ◌||◌, if◌then◌else◌, List, [], ◌∷◌, ◌++◌, reverse, filter, refl, sym, ap, ◌∙◌}, lemmas.{Bool.{or_right}, Grind.{reverse_onto}, List.{append_assoc}}}
+use Rattle.std.proofs.{Common.{◌≡◌, Bool, true, false, not, ◌&&◌, ◌||◌, if◌then◌else◌, List, [], ◌∷◌, ◌++◌, reverse, filter, refl, sym, ap, ◌∙◌}, lemmas.{Bool.{or_parts}, Grind.{reverse_onto}, List.{append_assoc}}}
 use Rattle.amt_values.{specs.{declared.address.Ip.{Ip}, Order.{ip_order}, Ascending.{IsAscending}}, proofs.{Orders.{ip_order-total, ip_order-exact}, AscendingLaws.{IsAscending-ascending, has-append, has-difference, has-filter, has-union, same_ascending}}}
-use Rattle.source_filter.specs.{Filter.{FilterValue, admits, admits_by, filter_after, filter_after_all, mode_after, nothing, sources_after}, Record.{is_full, lists, says, speaks}, declared.mode.Mode.{Mode}}
+use Rattle.source_filter.specs.{Filter.{FilterValue, admits, admits_by, filter_after, filter_after_all, mode_after, nothing, sources_after}, Record.{is_full, lists, says, says_by, speaks}, declared.mode.Mode.{Mode}}
 use Rattle.source_filter.{specs.{declared.mode.Mode.TheVariants.{Include, Exclude}, declared.record.{Record.{Record}, RecordKind.{RecordKind, TheVariants.{IsIn, Allow, Block}}}}, proofs.FilterAfter.{IsAscending-filter_after, admits-filter_after, lists-ascending}}
 use Rattle.endpoint_membership.specs.GroupFilter.{records_admit, counted_sources, excludes, is_counted_source, is_excluding, named_sources, filter_of}
 
@@ -40,49 +40,31 @@ lists-filter_by_records records source =
     let says = admits-filter_by_records records source in
     counted_by (excludes records) (lists (filter_by_records records).sources source) (records_admit records source) (rw (mode-filter_by_records records) at says)
 
-turned : (a b : Bool) → (a || b) ≡ true → (b || a) ≡ true
-turned true b given = or_right b true refl
-turned false true given = refl
-turned false false given = given
+silent_by : (kind : RecordKind) (listed admitted excluding : Bool) → listed ≡ false → admitted ≡ excluding
+    → (if is_full kind || listed then says_by kind listed else admitted) ≡ (if is_full kind then is_excluding kind else excluding)
+silent_by Allow listed admitted excluding none same = rw none same
+silent_by Block listed admitted excluding none same = rw none same
+silent_by kind listed admitted excluding none same = rw none refl
 
-first_of_both : (a b c : Bool) → (a && b) ≡ true → (c || a) ≡ true
-first_of_both true b c both = or_right c true refl
-first_of_both false b c both = cc
+-- a source that no record names is wanted where all but listed ones are
+unnamed : (records : List Record) (source : Ip) → lists (named_sources records) source ≡ false → records_admit records source ≡ excludes records
+unnamed [] source none = refl
+unnamed (newest ∷ older) source none =
+    let both = or_parts (lists newest.sources source) (lists (named_sources older) source) (sym (has-append ip_order newest.sources (named_sources older) source) ∙ none) in
+    silent_by newest.kind (lists newest.sources source) (records_admit older source) (excludes older) both.0 (unnamed older source both.1)
 
-from_either : (kind : RecordKind) (mode : Mode) (old listed : List Ip) (source : Ip) → lists (sources_after kind mode old listed) source ≡ true
-    → (lists listed source || lists old source) ≡ true
-from_either Allow Include old listed source given =
-    turned (lists old source) (lists listed source) (sym (has-union ip_order-total old listed source) ∙ given)
-from_either Allow Exclude old listed source given =
-    first_of_both (lists old source) (not (lists listed source)) (lists listed source) (sym (has-difference ip_order-exact old listed source) ∙ given)
-from_either Block Include old listed source given =
-    first_of_both (lists old source) (not (lists listed source)) (lists listed source) (sym (has-difference ip_order-exact old listed source) ∙ given)
-from_either Block Exclude old listed source given =
-    turned (lists old source) (lists listed source) (sym (has-union ip_order-total old listed source) ∙ given)
-from_either full mode old listed source given =
-    turned (lists old source) (lists listed source) (or_right (lists old source) (lists listed source) (sym (lists-ascending listed source) ∙ given))
+uncounted_by : (excluding admitted : Bool) → admitted ≡ excluding → (if excluding then not admitted else admitted) ≡ false
+uncounted_by true admitted same = ap not same
+uncounted_by false admitted same = same
 
-either_onward : (a b c : Bool) → (b ≡ true → c ≡ true) → (a || b) ≡ true → (a || c) ≡ true
-either_onward true b c onward given = refl
-either_onward false b c onward given = onward given
-
--- only a named source is listed
-lists-named_sources : (records : List Record) (source : Ip) → lists (filter_by_records records).sources source ≡ true → lists (named_sources records) source ≡ true
-lists-named_sources [] source given = given
-lists-named_sources (newest ∷ older) source given =
-    has-append ip_order newest.sources (named_sources older) source
-    ∙ either_onward (lists newest.sources source) (lists (filter_by_records older).sources source) (lists (named_sources older) source) (lists-named_sources older source)
-    (from_either newest.kind (filter_by_records older).mode (filter_by_records older).sources newest.sources source given)
-
-within_by : (a b : Bool) → (b ≡ true → a ≡ true) → b ≡ (a && b)
-within_by a true within = rw (within refl) refl
-within_by true false within = refl
-within_by false false within = refl
+within_by : (named counted : Bool) → (named ≡ false → counted ≡ false) → counted ≡ (named && counted)
+within_by true counted none = refl
+within_by false counted none = none refl
 
 lists-counted_sources : (records : List Record) (source : Ip) → lists (filter_by_records records).sources source ≡ lists (counted_sources records) source
 lists-counted_sources records source =
     lists-filter_by_records records source
-    ∙ within_by (lists (named_sources records) source) (is_counted_source records source) (λ counted. lists-named_sources records source (lists-filter_by_records records source ∙ counted))
+    ∙ within_by (lists (named_sources records) source) (is_counted_source records source) (λ none. uncounted_by (excludes records) (records_admit records source) (unnamed records source none))
     ∙ sym (has-filter ip_order-exact (is_counted_source records) (named_sources records) source)
     ∙ sym (lists-ascending (filter (is_counted_source records) (named_sources records)) source)
 

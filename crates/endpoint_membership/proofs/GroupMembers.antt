@@ -29,15 +29,6 @@ from_least group = range_contains group_member_order (Included (least_member gro
 abbrev pub AreByGroup : BTreeMap GroupMember StoredFilter → List Membership → Type 0
 AreByGroup kept rows = (member : GroupMember) → membership_with (pair member.endpoint member.group) (get group_member_order kept member) ≡ membership_in rows (pair member.endpoint member.group)
 
--- a member is there where its pair has a membership
-abbrev AreMembersOf : List GroupMember → List Membership → Type 0
-AreMembersOf members rows = (member : GroupMember) → has group_member_order members member ≡ is_some (membership_in rows (pair member.endpoint member.group))
-
--- the members with a filter are those of the memberships
-AreMembersOf-kept : (kept : BTreeMap GroupMember StoredFilter) (rows : List Membership) → AreByGroup kept rows → AreMembersOf (keys kept) rows
-AreMembersOf-kept kept rows by_group member =
-    sym (is_some-lookup (is_at (group_member_order member)) kept.entries) ∙ sym (some_with (pair member.endpoint member.group) (get group_member_order kept member)) ∙ ap is_some (by_group member)
-
 -- all members are of the group
 abbrev AreIn : Ip → List GroupMember → Type 0
 AreIn group members = AllByRecursion (λ member. same_group member.group group ≡ true) members
@@ -114,13 +105,18 @@ module _ (lifetime moment : ℕ) (group source : Ip) (rows : List Membership) wh
   pub decided : (member : GroupMember) → same_group member.group group ≡ true → is_target_member member ≡ lets_in member.endpoint
   decided member same = ap (λ (here : Bool). here && lets_in member.endpoint) same
 
-  -- the members that get a packet are the targets
-  AreTargets-among : (members : List GroupMember) → IsAscending group_member_order members → AreMembersOf members rows → AreTargets lifetime moment group source rows (targets_among members)
-  AreTargets-among members ordered joined =
-      let all = All-passing (λ (member : GroupMember). same_group member.group group ≡ true) is_target_member in_group members in record {
-        ascend = IsAscending-endpoints group (filter is_target_member members) all (IsAscending-filter group_member_order is_target_member members ordered);
-        each = λ endpoint. has-endpoints group (filter is_target_member members) endpoint all ∙ has-filter group_member_order-exact is_target_member members (made group endpoint)
-            ∙ ap (λ (there : Bool). there && is_target_member (made group endpoint)) (joined (made group endpoint))
+  -- the members of a table that get a packet are the targets
+  pub AreTargets-table : (order : GroupMember → GroupMember → Ordering) (kept : BTreeMap GroupMember StoredFilter) → order ≡ group_member_order → AreByGroup kept rows → IsOrdered order kept
+      → AreTargets lifetime moment group source rows (targets_among (keys kept))
+  AreTargets-table order kept same by_group ascending =
+      let members = filter is_target_member (keys kept) in
+      let all = All-passing (λ (member : GroupMember). same_group member.group group ≡ true) is_target_member in_group (keys kept) in record {
+        ascend = IsAscending-endpoints group members all
+            (IsAscending-filter group_member_order is_target_member (keys kept) (subst (λ (by : GroupMember → GroupMember → Ordering). IsOrdered by kept) same ascending));
+        each = λ endpoint. let member = made group endpoint in
+            has-endpoints group members endpoint all ∙ has-filter group_member_order-exact is_target_member (keys kept) member
+            ∙ ap (λ (there : Bool). there && is_target_member member) (sym (is_some-lookup (is_at (group_member_order member)) kept.entries)
+            ∙ sym (some_with (pair endpoint group) (get group_member_order kept member)) ∙ ap is_some (by_group member))
             ∙ only_found (same_group group group) (is_target lifetime moment source) (membership_in rows (pair endpoint group)) (ap is_eq (tied_itself ip_order-total group));
       }
 
@@ -184,12 +180,6 @@ module _ (lifetime moment : ℕ) (group source : Ip) (rows : List Membership) wh
       now ∙ ap (λ (first : List EndpointValue). first ++ cond lets (member.endpoint ∷ []) []) so_far
       ∙ sym (ap targets_among more ∙ targets_among-append (seen_members seen) (member ∷ [])
       ∙ ap (λ (last : List EndpointValue). targets_among (seen_members seen) ++ last) (one_more_by lets member (decided member same ∙ is)))
-
-  -- the members of a table that get a packet are the targets
-  pub AreTargets-table : (order : GroupMember → GroupMember → Ordering) (kept : BTreeMap GroupMember StoredFilter) → order ≡ group_member_order → AreByGroup kept rows → IsOrdered order kept
-      → AreTargets lifetime moment group source rows (targets_among (keys kept))
-  AreTargets-table order kept same by_group ascending =
-      AreTargets-among (keys kept) (subst (λ (by : GroupMember → GroupMember → Ordering). IsOrdered by kept) same ascending) (AreMembersOf-kept kept rows by_group)
 
 keys_by : (keeps : Bool) (entry : GroupMember × StoredFilter) (rest : List (GroupMember × StoredFilter)) (members : List GroupMember) → keys_of rest ≡ members → keys_of (cond keeps (entry ∷ rest) rest) ≡ cond keeps (entry.0 ∷ members) members
 keys_by true entry rest members is = ap (λ (more : List GroupMember). entry.0 ∷ more) is

@@ -4,7 +4,6 @@ pub mod AfterReport
 pub mod Clearings
 pub mod CountedLive
 pub mod CountedParts
-pub mod CountedRows
 pub mod EndpointGroupOrder
 pub mod EndpointRange
 pub mod EnoughRecords
@@ -12,15 +11,12 @@ pub mod Expiry
 pub mod FewRows
 pub mod FilterByRecords
 pub mod FilterMap
-pub mod GonePairs
 pub mod GroupMembers
 pub mod HoldsAfter
 pub mod KeptFilters
 pub mod KeysTogether
 pub mod LimitByOwn
-pub mod LimitOrder
 pub mod LiveChain
-pub mod LiveEndpoints
 pub mod LongestChain
 pub mod MembershipAt
 pub mod MembershipIn
@@ -31,11 +27,8 @@ pub mod PairsWalked
 pub mod PartOrders
 pub mod PublishedLog
 pub mod RenewedTogether
-pub mod ReplacedFilters
 pub mod ReportBounds
 pub mod ReportFits
-pub mod RowsAdmit
 pub mod SetAt
-pub mod SetTogether
 pub mod TargetsByLog
 pub mod WithinLimits

@@ -1,10 +1,18 @@
 -- The limits that a report's memberships pass, by the memberships of its endpoint and the number of other live endpoints.
 use Rattle.std.{proofs.{Common.{◌≡◌, ℕ, ◌+◌, nat_lt, Bool, true, false, cond, not, ◌&&◌, ◌||◌, if◌then◌else◌, List, [], ◌∷◌, filter, length, Option, Some, refl, sym, ap, ◌∙◌}, lemmas.List.Sums.{length-filter}}, specs.List.{find, list_any}}
-use Rattle.amt_values.{specs.{EndpointValue.{EndpointValue}, Ascending.{IsAscending}}, proofs.AscendingLaws.{IsAscending-filter}}
+use Rattle.amt_values.{specs.{EndpointValue.{EndpointValue}, Ascending.{IsAscending}, Conditions.{first_holding, first_of}}, proofs.{AscendingLaws.{IsAscending-filter}, ConditionLaws.{first_holding-append, first_holding-map}}}
 use Rattle.source_filter.specs.declared.record.Record.{Record}
 use Rattle.endpoint_membership.specs.{Membership.{Membership, is_fresh, membership_order}, declared.limits.{LimitFault.{LimitFault}, Limits.{Limits}}, Stored.{is_counted, is_of_another, only}, EndpointGroup.{EndpointGroup, same_endpoint, same_group}}
-use Rattle.endpoint_membership.specs.{EndpointMemberships.{limit_by, AreOf, is_over}, Limits.{first_limit, group_count, is_too_wide, live_count}, Log.{is_empty}, Memberships.{is_live, membership_in}}
-use Rattle.endpoint_membership.proofs.{AfterReport.{AreAfterReport}, CountedLive.{counted_are, live_count-besides}, LimitOrder.{first_limit-by}, MembershipIn.{filter_all, membership_in-filter, same_where}}
+use Rattle.endpoint_membership.specs.{EndpointMemberships.{limit_by, AreOf, is_over, width_fault}, Limits.{count_conditions, first_limit, group_count, is_too_wide, live_count, width_conditions}, Log.{is_empty}, Memberships.{is_live, membership_in}}
+use Rattle.endpoint_membership.proofs.{AfterReport.{AreAfterReport}, CountedLive.{counted_are, live_count-besides}, MembershipIn.{filter_all, membership_in-filter, same_where}}
+
+-- the first limit in the order of the conditions is that of the first membership that is too wide, or of the numbers
+pub first_limit-by : (limits : Limits) (endpoint : EndpointValue) (records : List Record) (rows : List Membership)
+    → first_limit limits endpoint records rows ≡ limit_by limits (group_count endpoint rows) (live_count rows) (find (is_too_wide limits endpoint records) rows)
+first_limit-by limits endpoint records rows =
+    let counts = count_conditions limits (group_count endpoint rows) (live_count rows) in
+    first_holding-append (width_conditions (is_too_wide limits endpoint records) rows) counts
+    ∙ ap (λ (wide : Option LimitFault). first_of wide (first_holding counts)) (first_holding-map (is_too_wide limits endpoint records) width_fault rows)
 
 -- the memberships of the endpoint
 abbrev pub is_of : EndpointValue → Membership → Bool

@@ -1,9 +1,9 @@
 -- The membership of a pair as entries come and time passes.
-use Rattle.std.proofs.{Common.{◌≡◌, ℕ, ◌+◌, ◌≤◌, ◌<◌, Bool, true, false, cond, ltb, not, if◌then◌else◌, List, [], ◌∷◌, ◌++◌, reverse, filter, Option, Some, None, refl, sym, ap, ◌∙◌}, lemmas.Grind.{reverse_onto}}
+use Rattle.std.proofs.{Common.{◌≡◌, ℕ, ◌+◌, ◌≤◌, ◌<◌, max, Bool, true, false, cond, ltb, not, if◌then◌else◌, List, [], ◌∷◌, ◌++◌, reverse, filter, Option, Some, None, refl, sym, ap, ◌∙◌, arith}, lemmas.Grind.{reverse_onto}}
 use Rattle.amt_values.specs.{declared.address.Ip.{Ip}, EndpointValue.{EndpointValue}}
-use Rattle.source_filter.specs.{Filter.{FilterValue, filter_after_all, nothing}, declared.mode.Mode.{Mode, TheVariants.{Include, Exclude}}, declared.record.Record.{Record}}
-use Rattle.endpoint_membership.specs.{declared.change.Change.{Change, TheVariants.{Reported, Clear}}, Membership.{Membership, is_fresh}, Stored.{only}, Log.{concerns, is_empty, latest, leaving, live_chain, on_group, records_at, renewed_at}, EndpointGroup.{EndpointGroup, same_endpoint}}
-use Rattle.endpoint_membership.{specs.{Memberships.{membership_of, membership_at}, GroupFilter.{filter_of}}, proofs.{LiveChain.{live_chain-entry, live_chain-later, live_chain-other, renewed_at-entry, renewed_at-other}, FilterByRecords.{filter_by_records, filter_by_records-append, filter_by_records-is}}}
+use Rattle.source_filter.specs.{Filter.{FilterValue, admits, filter_after_all, nothing}, declared.mode.Mode.{Mode, TheVariants.{Include, Exclude}}, declared.record.Record.{Record}}
+use Rattle.endpoint_membership.specs.{declared.change.Change.{Change, TheVariants.{Reported, Clear}}, Membership.{Membership, is_fresh}, Admission.{is_admitted}, Stored.{only}, Log.{concerns, is_empty, latest, leaving, live_chain, on_group, records_at, renewed_at}, EndpointGroup.{EndpointGroup, same_endpoint}}
+use Rattle.endpoint_membership.{specs.{Memberships.{membership_of, membership_at}, GroupFilter.{filter_of, records_admit}}, proofs.{LiveChain.{live_chain-entry, live_chain-later, live_chain-other, renewed_at-entry, renewed_at-other}, FilterByRecords.{admits-filter_by_records, filter_by_records, filter_by_records-append, filter_by_records-is}}}
 
 -- the filter of a membership, and of a pair where there is none
 abbrev pub filter_in : Option Membership → FilterValue
@@ -119,3 +119,24 @@ pub membership_at-report : (lifetime at : ℕ) (endpoint : EndpointValue) (recor
     else membership_of endpoint_group (filter_after_all (filter_in (membership_at lifetime (latest (Reported endpoint records at ∷ past)) past endpoint_group)) (on_group endpoint_group.group records)) (latest (Reported endpoint records at ∷ past)))
 membership_at-report lifetime at endpoint records past endpoint_group some same =
     reported_by lifetime at endpoint records past endpoint_group (on_group endpoint_group.group records) some refl same
+
+-- what the membership lets in, and nothing where there is none
+pub admits-membership_at : (lifetime : ℕ) (log : List Change) (endpoint_group : EndpointGroup) (source : Ip) (moment : ℕ) (found : Option Membership) → latest log ≤ moment
+    → membership_at lifetime moment (reverse log) endpoint_group ≡ found → admits (filter_in found) source ≡ is_admitted lifetime log endpoint_group source moment
+admits-membership_at lifetime log endpoint_group source moment found onward is =
+    let past = reverse log in
+    let chain = live_chain lifetime endpoint_group moment past in
+    ap (λ (row : Option Membership). admits (filter_in row) source) (sym is ∙ membership_at-is lifetime moment past endpoint_group)
+    ∙ ap (λ (filter : FilterValue). admits filter source) (filter_in-membership endpoint_group (filter_by_records chain) (renewed_at endpoint_group past))
+    ∙ admits-filter_by_records chain source
+    ∙ ap (λ (later : ℕ). records_admit (live_chain lifetime endpoint_group later past) source) (omega arith)
+
+-- what a membership lets in
+pub admits-row : (lifetime : ℕ) (log : List Change) (endpoint_group : EndpointGroup) (source : Ip) (moment : ℕ) (membership : Membership) → latest log ≤ moment
+    → membership_at lifetime moment (reverse log) endpoint_group ≡ Some membership → admits membership.filter source ≡ is_admitted lifetime log endpoint_group source moment
+admits-row lifetime log endpoint_group source moment membership onward is = admits-membership_at lifetime log endpoint_group source moment (Some membership) onward is
+
+-- nothing is let in where there is none
+pub admits-none : (lifetime : ℕ) (log : List Change) (endpoint_group : EndpointGroup) (source : Ip) (moment : ℕ) → latest log ≤ moment
+    → membership_at lifetime moment (reverse log) endpoint_group ≡ None → is_admitted lifetime log endpoint_group source moment ≡ false
+admits-none lifetime log endpoint_group source moment onward is = sym (admits-membership_at lifetime log endpoint_group source moment None onward is)

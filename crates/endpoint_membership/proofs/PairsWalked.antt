@@ -4,7 +4,7 @@ use Rattle.std.{proofs.lemmas.{List.Elements.{filter-append, filter_map-append},
 use Rattle.amt_values.specs.{EndpointValue.{EndpointValue}, Ascending.{IsAscending}}
 use Rattle.endpoint_membership.specs.{EndpointGroup.{EndpointGroup}, Filters.{membership_with}, Limits.{live_count}, Membership.{Membership, endpoint_group_of, membership_order}}
 use Rattle.endpoint_membership.{specs.{Memberships.{membership_in, row_of}, Stored.{ends_with, only}, declared.{row.Row.{Row}, stored.StoredFilter.{StoredFilter}}}, proofs.AfterEntries.{IsAscending-prefix}}
-use Rattle.endpoint_membership.proofs.{LiveEndpoints.{filter-push_yes, last_of, last_of-push, more_live}, MembershipIn.{GivesItsEndpointGroup-membership_in, all_found}}
+use Rattle.endpoint_membership.proofs.{CountedLive.{filter-push_yes, last_of, last_of-push, more_live}, MembershipIn.{GivesItsEndpointGroup-membership_in, all_found}, ReportBounds.{given_by, some_by}}
 
 -- the memberships of these pairs
 abbrev pub memberships_of : List Membership → List EndpointGroup → List Membership
@@ -73,13 +73,13 @@ pub record IsCounted (test : Membership → Bool) (rows : List Membership) (numb
   pub count : number ≡ live_count (filter test rows)
   pub last : endpoint ≡ last_of (filter test rows)
 
-counted_by : (found : Option Membership) (rows : List Membership) (pairs rest : List EndpointGroup) (seen : List (Bor EndpointGroup)) (at : Bor EndpointGroup) (test : Membership → Bool) (count step : ℕ) (last : Option EndpointValue)
-    → IsAscending membership_order rows → memberships_of rows pairs ≡ rows → pairs ≡ map deref seen ++ at.now ∷ rest → membership_in rows at.now ≡ found → is_some (only test found) ≡ true
+pub IsCounted-more : (rows : List Membership) (pairs rest : List EndpointGroup) (seen : List (Bor EndpointGroup)) (at : Bor EndpointGroup) (test : Membership → Bool) (count step : ℕ) (last : Option EndpointValue)
+    → IsAscending membership_order rows → memberships_of rows pairs ≡ rows → pairs ≡ map deref seen ++ at.now ∷ rest → is_some (only test (membership_in rows at.now)) ≡ true
     → IsCounted test (seen_memberships rows seen) count last → step ≡ (if ends_with last at.now.endpoint then 0 else 1)
     → IsCounted test (seen_memberships rows (seen ++ at ∷ [])) (count + step) (Some at.now.endpoint)
-counted_by None rows pairs rest seen at test count step last ascends all is found passes so_far more = cc
-counted_by (Some membership) rows pairs rest seen at test count step last ascends all is found passes so_far more =
-    let yes : test membership ≡ true = sym (found_by (test membership) membership) ∙ passes in
+IsCounted-more rows pairs rest seen at test count step last ascends all is passes so_far more =
+    given_by (IsCounted test (seen_memberships rows (seen ++ at ∷ [])) (count + step) (Some at.now.endpoint)) (membership_in rows at.now) (some_by test (membership_in rows at.now) passes) (λ membership found.
+    let yes : test membership ≡ true = sym (found_by (test membership) membership) ∙ ap (λ (one : Option Membership). is_some (only test one)) (sym found) ∙ passes in
     let its : membership.endpoint ≡ at.now.endpoint = ap (λ (one : EndpointGroup). one.endpoint) (GivesItsEndpointGroup-membership_in rows at.now membership found) in
     let before = seen_memberships rows seen in
     let push = seen-push rows seen at (Some membership) found in record {
@@ -88,14 +88,7 @@ counted_by (Some membership) rows pairs rest seen at test count step last ascend
           ∙ sym (ap (λ (some : List Membership). live_count (filter test some)) push);
       last = ap (λ (endpoint : EndpointValue). Some endpoint) (sym its)
           ∙ sym (ap (λ (some : List Membership). last_of (filter test some)) push ∙ ap last_of (filter-push_yes test before membership yes) ∙ last_of-push (filter test before) membership);
-    }
-
-pub IsCounted-more : (rows : List Membership) (pairs rest : List EndpointGroup) (seen : List (Bor EndpointGroup)) (at : Bor EndpointGroup) (test : Membership → Bool) (count step : ℕ) (last : Option EndpointValue)
-    → IsAscending membership_order rows → memberships_of rows pairs ≡ rows → pairs ≡ map deref seen ++ at.now ∷ rest → is_some (only test (membership_in rows at.now)) ≡ true
-    → IsCounted test (seen_memberships rows seen) count last → step ≡ (if ends_with last at.now.endpoint then 0 else 1)
-    → IsCounted test (seen_memberships rows (seen ++ at ∷ [])) (count + step) (Some at.now.endpoint)
-IsCounted-more rows pairs rest seen at test count step last ascends all is passes so_far more =
-    counted_by (membership_in rows at.now) rows pairs rest seen at test count step last ascends all is refl passes so_far more
+    })
 
 left_by : (found : Option Membership) (test : Membership → Bool) → is_some (only test found) ≡ false → filter test (cons_option found []) ≡ []
 left_by None test fails = refl

@@ -4,7 +4,7 @@ use Rattle.amt_values.{specs.{declared.address.Ip.{Ip, TheVariants.{V4}}, Endpoi
 use Rattle.source_filter.specs.Filter.{admits}
 use Rattle.endpoint_membership.specs.{Admission.{is_admitted}, EndpointGroup.{EndpointGroup}, Log.{brought, latest}, Membership.{Membership}, Memberships.{is_live, membership_at, memberships_at, row_of, rows_of}}
 use Rattle.endpoint_membership.specs.{Published.{AnswerAlike, ClearingsLetNoTimePass, IsPublishedPart, clears_nothing, published_back, published_of, with_published}, Targets.{targets_of}, declared.change.Change.{Change, TheVariants.{Reported, Clear, Mark}}}
-use Rattle.endpoint_membership.proofs.{Clearings.{AreAlike, alike_all, alike_cleared, at_group, reverse-around, unseen}, HoldsAfter.{latest-reverse, reverse-push}, MembershipAt.{filter_in, membership_at-other}, MembershipsByLog.{AreMembershipsAt-memberships_at, rows_are}, RowsAdmit.{admits-membership_at}, TargetsByLog.{IsAscending-targets_of, admitted_later, has-targets_of}}
+use Rattle.endpoint_membership.proofs.{Clearings.{AreAlike, alike_all, alike_cleared, at_group, reverse-around, unseen}, HoldsAfter.{latest-reverse, reverse-push}, MembershipAt.{admits-membership_at, filter_in, membership_at-other}, MembershipsByLog.{AreMembershipsAt-memberships_at, rows_are}, TargetsByLog.{IsAscending-targets_of, admitted_later, has-targets_of}}
 
 -- logs turned round in which every pair has the same membership from now on
 abbrev AllAlike : ℕ → List Change → List Change → Type 0
@@ -88,14 +88,12 @@ AnswerAlike-turned lifetime one other alike =
     }
 
 -- a log that is cut at a clearing, which may be left out
-now_or_later : (at now : ℕ) → at ≤ now → max at now ≡ now
-now_or_later at now before = omega arith
-
 pub left_out : (lifetime : ℕ) (log later : List Change) (endpoint : EndpointValue) (at : ℕ) → 0 < lifetime → at ≤ latest log
     → is_live endpoint (memberships_at lifetime (latest log) log) ≡ false → AnswerAlike lifetime (log ++ later) (log ++ Clear endpoint at ∷ later)
 left_out lifetime log later endpoint at some before none =
+    let now : max at (latest log) ≡ latest log = omega arith in
     let here : is_live endpoint (memberships_at lifetime (max at (latest log)) log) ≡ false =
-    subst (λ (moment : ℕ). is_live endpoint (memberships_at lifetime moment log) ≡ false) (sym (now_or_later at (latest log) before)) none in
+    subst (λ (moment : ℕ). is_live endpoint (memberships_at lifetime moment log) ≡ false) (sym now) none in
     let idle = alike_idle lifetime endpoint at log before here in
     let without = alike_newer lifetime (reverse log) (Clear endpoint at ∷ reverse log) (reverse later) some (alike_back lifetime (Clear endpoint at ∷ reverse log) (reverse log) idle) in
     AnswerAlike-turned lifetime (log ++ later) (log ++ Clear endpoint at ∷ later)

@@ -3,7 +3,12 @@ use Rattle.std.proofs.{Common.{◌≡◌, ℕ, ◌+◌, ◌≤◌, Bool, true, f
 use Rattle.std.specs.List.{AllByRecursion, find}
 use Rattle.amt_values.{specs.{declared.address.Ip.{Ip}, Order.{ip_order}, Ascending.{has, ascending}}, proofs.AscendingLaws.{length-ascending}}
 use Rattle.source_filter.specs.{Filter.{FilterValue, filter_after, filter_after_all, sources_after}, declared.mode.Mode.{Mode, TheVariants.{Include, Exclude}}, declared.record.{Record.{Record}, RecordKind.{RecordKind, TheVariants.{Allow, Block}}}}
-use Rattle.endpoint_membership.specs.{EndpointGroup.{EndpointGroup, same_endpoint_group, same_group}, Log.{on_group}, Membership.{endpoint_group_of, Membership}, Memberships.{membership_in}}
+use Rattle.endpoint_membership.specs.{EndpointGroup.{EndpointGroup, same_endpoint_group, same_group}, Log.{on_group}, Membership.{endpoint_group_of, Membership}, Memberships.{membership_in}, Stored.{only}}
+
+-- what passes is there
+pub some_by : (test : Membership → Bool) (found : Option Membership) → is_some (only test found) ≡ true → is_some found ≡ true
+some_by test None some = some
+some_by test (Some membership) some = refl
 
 -- what follows from a membership that is there
 pub given_by : (X : Type 0) (found : Option Membership) → is_some found ≡ true → ((membership : Membership) → found ≡ Some membership → X) → X

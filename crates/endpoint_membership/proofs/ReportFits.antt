@@ -63,26 +63,9 @@ own_row_by lifetime moment endpoint records rows group membership (first ∷ lat
       old = λ none. let wrong = on ∙ none in absurd cc;
     }
 
-own_row : (lifetime moment : ℕ) (endpoint : EndpointValue) (records : List Record) (rows own : List Membership) (group : Ip) (membership : Membership) → 0 < lifetime → AreOwn lifetime moment endpoint records rows own
-    → membership_in own (endpoint_group endpoint group) ≡ Some membership → IsOwnRow lifetime moment endpoint records (only (is_fresh lifetime moment) (membership_in rows (endpoint_group endpoint group))) group membership
-own_row lifetime moment endpoint records rows own group membership some owned found =
-    own_row_by lifetime moment endpoint records rows group membership (on_group group records) some refl (sym (owned.each group) ∙ found)
-
-own_endpoint_group : (endpoint : EndpointValue) (own : List Membership) (at : EndpointGroup) (membership : Membership) → AreOf endpoint own → membership_in own at ≡ Some membership → at ≡ endpoint_group endpoint at.group
-own_endpoint_group endpoint own at membership of found =
-    let here = sym (GivesItsEndpointGroup-membership_in own at membership found) in
-    let same = All-at (λ (one : Membership). same_endpoint one.endpoint endpoint ≡ true) own at membership of found in
-    ap (λ (one : EndpointValue). endpoint_group one at.group) (ap (λ (one : EndpointGroup). one.endpoint) here ∙ tells_apart endpoint_order-exact membership.endpoint endpoint same)
-
 only_by : (test : Membership → Bool) (found : Option Membership) → ((membership : Membership) → found ≡ Some membership → test membership ≡ true) → only test found ≡ found
 only_by test None passes = refl
 only_by test (Some membership) passes = rw (passes membership refl) refl
-
--- all of the endpoint's memberships are fresh
-own_fresh : (lifetime moment : ℕ) (endpoint : EndpointValue) (records : List Record) (rows own : List Membership) (at : EndpointGroup) → 0 < lifetime → AreOwn lifetime moment endpoint records rows own
-    → only (is_fresh lifetime moment) (membership_in own at) ≡ membership_in own at
-own_fresh lifetime moment endpoint records rows own at some owned = only_by (is_fresh lifetime moment) (membership_in own at)
-    (λ membership found. (own_row lifetime moment endpoint records rows own at.group membership some owned (ap (membership_in own) (sym (own_endpoint_group endpoint own at membership owned.of found)) ∙ found)).fresh)
 
 renewed_size : (limits : Limits) (test : Membership → Bool) (rows : List Membership) (at : EndpointGroup) → IsWithin limits rows → (found : Option Membership) → found ≡ only test (membership_in rows at)
     → length (filter_or_nothing (renewed_filter_of found)).sources ≤ limits.sources
@@ -90,50 +73,9 @@ renewed_size limits test rows at within None is = omega arith
 renewed_size limits test rows at within (Some membership) is =
     All-at (λ (one : Membership). size one ≤ limits.sources) rows at membership within.sources (only_parts test (membership_in rows at) membership (sym is)).0
 
--- no membership of the endpoint has more sources than an old one and the report together
-pub own_sizes : (limits : Limits) (lifetime moment : ℕ) (endpoint : EndpointValue) (records : List Record) (rows own : List Membership) → 0 < lifetime → AreOwn lifetime moment endpoint records rows own
-    → IsWithin limits rows → AllByRecursion (λ membership. size membership ≤ limits.sources + item_count records) own
-own_sizes limits lifetime moment endpoint records rows own some owned within =
-    All-from_membership_in (λ (membership : Membership). size membership ≤ limits.sources + item_count records) own owned.ascends
-    (λ at membership found.
-    let test = is_fresh lifetime moment in
-    let here = endpoint_group endpoint at.group in
-    let row = own_row lifetime moment endpoint records rows own at.group membership some owned (ap (membership_in own) (sym (own_endpoint_group endpoint own at membership owned.of found)) ∙ found) in
-    let before = renewed_size limits test rows here within (only test (membership_in rows here)) refl in
-    let added = sum_by-on_group at.group records in
-    let most = row.size in
-    omega arith)
-
 either_by : (reported was : Bool) → (reported ≡ false → was ≡ true) → (was || reported) ≡ true
 either_by true was old = or_right was true refl
 either_by false was old = or_left was false (old refl)
-
--- each pair of the endpoint had a membership before or is reported
-pub own_few : (lifetime moment : ℕ) (endpoint : EndpointValue) (records : List Record) (rows own : List Membership) → 0 < lifetime → IsAscending membership_order rows → AreOwn lifetime moment endpoint records rows own
-    → length own ≤ group_count endpoint rows + length records
-own_few lifetime moment endpoint records rows own some ascends owned =
-    let mine = filter (λ (one : Membership). same_endpoint one.endpoint endpoint) rows in
-    let was = map endpoint_group_of mine in
-    let reported = endpoint_groups_of endpoint records in
-    let fewer = length-le_from_is_member (eq_by_cmp_equiv endpoint_group_order-total) (map endpoint_group_of own) (was ++ reported)
-    (IsDistinct-from_sorted endpoint_group_order (map endpoint_group_of own) (IsAscending-pairs own owned.ascends))
-    (λ at listed. has-append endpoint_group_order was reported at ∙ given_by ((has endpoint_group_order was at || has endpoint_group_order reported at) ≡ true) (membership_in own at) (sym (has-pairs own at) ∙ listed)
-    (λ membership found. either_by (has endpoint_group_order reported at) (has endpoint_group_order was at)
-    (λ quiet. let exact = own_endpoint_group endpoint own at membership owned.of found in
-    let here : same_endpoint at.endpoint endpoint ≡ true = ap (λ (one : EndpointGroup). same_endpoint one.endpoint endpoint) exact ∙ ap is_eq (tied_itself endpoint_order-total endpoint) in
-    let row = own_row lifetime moment endpoint records rows own at.group membership some owned (ap (membership_in own) (sym exact) ∙ found) in
-    has-pairs mine at ∙ ap is_some (membership_in-where (λ (one : EndpointGroup). same_endpoint one.endpoint endpoint) rows at ascends
-    ∙ ap (λ (test : Bool). cond test (membership_in rows at) None) here ∙ ap (membership_in rows) exact
-    ∙ (only_parts (is_fresh lifetime moment) (membership_in rows (endpoint_group endpoint at.group)) membership (row.old (on_group-none endpoint records at here quiet))).0)))) in
-    omega (
-      arith,
-      fewer,
-      length-append was reported,
-      length-map mine endpoint_group_of,
-      length-filter (λ (one : Membership). same_endpoint one.endpoint endpoint) rows,
-      length-map own endpoint_group_of,
-      length-map records (λ (one : Record). endpoint_group endpoint one.group),
-    )
 
 -- what is left of a pair of the endpoint at a moment, where its memberships were replaced
 left_own : (test : Membership → Bool) (here : Bool) (own old : Option Membership) → (here ≡ true → own ≡ None) → (own ≡ None → here ≡ false → only test old ≡ None) → only test (if here then None else option_or own old) ≡ only test own
@@ -149,36 +91,78 @@ not_gone false of apart its = refl
 left_other : (test : Membership → Bool) (here : Bool) (own old : Option Membership) → here ≡ false → own ≡ None → only test (if here then None else option_or own old) ≡ only test old
 left_other test here own old out none = rw (out, none) refl
 
--- memberships that were set pair by pair are those after the report, once what has expired is gone
-pub AreAfterReport-set : (lifetime moment : ℕ) (endpoint : EndpointValue) (records : List Record) (rows own now : List Membership) (gone : List EndpointGroup) → 0 < lifetime → IsAscending membership_order now
-    → AreOwn lifetime moment endpoint records rows own → AreGone lifetime moment endpoint rows own gone
-    → ((at : EndpointGroup) → membership_in now at ≡ (if has endpoint_group_order gone at then None else option_or (membership_in own at) (membership_in rows at)))
-    → AreAfterReport lifetime moment endpoint rows own (filter (is_fresh lifetime moment) now)
-AreAfterReport-set lifetime moment endpoint records rows own now gone some ascend owned left each =
-    let test = is_fresh lifetime moment in record {
-      ascend = IsAscending-filter membership_order test now ascend;
-      each = λ at. membership_in-filter test now at ascend ∙ ap (only test) (each at)
-          ∙ sym (cond_by (same_endpoint at.endpoint endpoint) (membership_in own at) (only test (membership_in rows at))
-          (only test (if has endpoint_group_order gone at then None else option_or (membership_in own at) (membership_in rows at)))
-          (λ same. let exact = ap (λ (one : EndpointValue). endpoint_group one at.group) (tells_apart endpoint_order-exact at.endpoint endpoint same) in
-          sym (left_own test (has endpoint_group_order gone at) (membership_in own at) (membership_in rows at) (left.none at)
-          (λ none out. ap (λ (one : EndpointGroup). only test (membership_in rows one)) exact ∙ left.all at.group (ap (membership_in own) (sym exact) ∙ none) (ap (has endpoint_group_order gone) (sym exact) ∙ out))
-          ∙ own_fresh lifetime moment endpoint records rows own at some owned))
-          (λ apart. sym (left_other test (has endpoint_group_order gone at) (membership_in own at) (membership_in rows at)
-          (not_gone (has endpoint_group_order gone at) (same_endpoint at.endpoint endpoint) apart (left.of at)) (membership_in-of endpoint own at owned.ascends owned.of apart))));
-    }
+module _ (lifetime moment : ℕ) (endpoint : EndpointValue) (records : List Record) (rows own : List Membership) (some : 0 < lifetime) (owned : AreOwn lifetime moment endpoint records rows own) where
+  abbrev test : Membership → Bool
+  test = is_fresh lifetime moment
 
--- memberships within the limits stay so by a report that passes none
-pub IsWithin-reported : (limits : Limits) (lifetime moment : ℕ) (endpoint : EndpointValue) (records : List Record) (rows own after : List Membership) → 0 < lifetime → IsAscending membership_order rows
-    → AreOwn lifetime moment endpoint records rows own → AreAfterReport lifetime moment endpoint rows own after → IsWithin limits rows → first_limit limits endpoint records after ≡ None → IsWithin limits after
-IsWithin-reported limits lifetime moment endpoint records rows own after some ascends owned are within none =
-    let test = is_fresh lifetime moment in
-    IsWithin-report limits endpoint records (filter test rows) after (IsAscending-filter membership_order test rows ascends) are.ascend (IsWithin-filter limits test rows within) none
-    (λ at apart. are.each at ∙ ap (λ (here : Bool). if here then membership_in own at else only test (membership_in rows at)) apart ∙ sym (membership_in-filter test rows at ascends))
-    (λ group membership silent found. membership_in-filter test rows (endpoint_group endpoint group) ascends
-    ∙ (own_row lifetime moment endpoint records rows own group membership some owned
-    (ap (λ (here : Bool). if here then membership_in own (endpoint_group endpoint group) else only test (membership_in rows (endpoint_group endpoint group))) (sym (ap is_eq (tied_itself endpoint_order-total endpoint)))
-    ∙ sym (are.each (endpoint_group endpoint group)) ∙ found)).old silent)
+  its_pair : (at : EndpointGroup) (membership : Membership) → membership_in own at ≡ Some membership → at ≡ endpoint_group endpoint at.group
+  its_pair at membership found =
+      let here = sym (GivesItsEndpointGroup-membership_in own at membership found) in
+      let same = All-at (λ (one : Membership). same_endpoint one.endpoint endpoint ≡ true) own at membership owned.of found in
+      ap (λ (one : EndpointValue). endpoint_group one at.group) (ap (λ (one : EndpointGroup). one.endpoint) here ∙ tells_apart endpoint_order-exact membership.endpoint endpoint same)
+
+  own_row : (at : EndpointGroup) (membership : Membership) → membership_in own at ≡ Some membership
+      → IsOwnRow lifetime moment endpoint records (only test (membership_in rows (endpoint_group endpoint at.group))) at.group membership
+  own_row at membership found =
+      own_row_by lifetime moment endpoint records rows at.group membership (on_group at.group records) some refl (sym (owned.each at.group) ∙ ap (membership_in own) (sym (its_pair at membership found)) ∙ found)
+
+  -- no membership of the endpoint has more sources than an old one and the report together
+  pub own_sizes : (limits : Limits) → IsWithin limits rows → AllByRecursion (λ membership. size membership ≤ limits.sources + item_count records) own
+  own_sizes limits within =
+      All-from_membership_in (λ (membership : Membership). size membership ≤ limits.sources + item_count records) own owned.ascends
+      (λ at membership found.
+      let here = endpoint_group endpoint at.group in
+      let before = renewed_size limits test rows here within (only test (membership_in rows here)) refl in
+      let added = sum_by-on_group at.group records in
+      let most = (own_row at membership found).size in
+      omega arith)
+
+  -- each pair of the endpoint had a membership before or is reported
+  pub own_few : IsAscending membership_order rows → length own ≤ group_count endpoint rows + length records
+  own_few ascends =
+      let mine = filter (λ (one : Membership). same_endpoint one.endpoint endpoint) rows in
+      let was = map endpoint_group_of mine in
+      let reported = endpoint_groups_of endpoint records in
+      let fewer = length-le_from_is_member (eq_by_cmp_equiv endpoint_group_order-total) (map endpoint_group_of own) (was ++ reported)
+      (IsDistinct-from_sorted endpoint_group_order (map endpoint_group_of own) (IsAscending-pairs own owned.ascends))
+      (λ at listed. has-append endpoint_group_order was reported at ∙ given_by ((has endpoint_group_order was at || has endpoint_group_order reported at) ≡ true) (membership_in own at) (sym (has-pairs own at) ∙ listed)
+      (λ membership found. either_by (has endpoint_group_order reported at) (has endpoint_group_order was at)
+      (λ quiet. let exact = its_pair at membership found in
+      let here : same_endpoint at.endpoint endpoint ≡ true = ap (λ (one : EndpointGroup). same_endpoint one.endpoint endpoint) exact ∙ ap is_eq (tied_itself endpoint_order-total endpoint) in
+      has-pairs mine at ∙ ap is_some (membership_in-where (λ (one : EndpointGroup). same_endpoint one.endpoint endpoint) rows at ascends
+      ∙ ap (λ (same : Bool). cond same (membership_in rows at) None) here ∙ ap (membership_in rows) exact
+      ∙ (only_parts test (membership_in rows (endpoint_group endpoint at.group)) membership ((own_row at membership found).old (on_group-none endpoint records at here quiet))).0)))) in
+      let before : length was ≡ group_count endpoint rows = length-map mine endpoint_group_of ∙ length-filter (λ (one : Membership). same_endpoint one.endpoint endpoint) rows in
+      let named = length-map records (λ (one : Record). endpoint_group endpoint one.group) in
+      omega (arith, length-append was reported, length-map own endpoint_group_of)
+
+  -- memberships that were set pair by pair are those after the report, once what has expired is gone
+  pub AreAfterReport-set : (now : List Membership) (gone : List EndpointGroup) → IsAscending membership_order now → AreGone lifetime moment endpoint rows own gone
+      → ((at : EndpointGroup) → membership_in now at ≡ (if has endpoint_group_order gone at then None else option_or (membership_in own at) (membership_in rows at)))
+      → AreAfterReport lifetime moment endpoint rows own (filter test now)
+  AreAfterReport-set now gone ascend left each = record {
+    ascend = IsAscending-filter membership_order test now ascend;
+    each = λ at. membership_in-filter test now at ascend ∙ ap (only test) (each at)
+        ∙ sym (cond_by (same_endpoint at.endpoint endpoint) (membership_in own at) (only test (membership_in rows at))
+        (only test (if has endpoint_group_order gone at then None else option_or (membership_in own at) (membership_in rows at)))
+        (λ same. let exact = ap (λ (one : EndpointValue). endpoint_group one at.group) (tells_apart endpoint_order-exact at.endpoint endpoint same) in
+        sym (left_own test (has endpoint_group_order gone at) (membership_in own at) (membership_in rows at) (left.none at)
+        (λ none out. ap (λ (one : EndpointGroup). only test (membership_in rows one)) exact ∙ left.all at.group (ap (membership_in own) (sym exact) ∙ none) (ap (has endpoint_group_order gone) (sym exact) ∙ out))
+        ∙ only_by test (membership_in own at) (λ membership found. (own_row at membership found).fresh)))
+        (λ apart. sym (left_other test (has endpoint_group_order gone at) (membership_in own at) (membership_in rows at)
+        (not_gone (has endpoint_group_order gone at) (same_endpoint at.endpoint endpoint) apart (left.of at)) (membership_in-of endpoint own at owned.ascends owned.of apart))));
+  }
+
+  -- memberships within the limits stay so by a report that passes none
+  pub IsWithin-reported : (limits : Limits) (after : List Membership) → IsAscending membership_order rows → AreAfterReport lifetime moment endpoint rows own after → IsWithin limits rows
+      → first_limit limits endpoint records after ≡ None → IsWithin limits after
+  IsWithin-reported limits after ascends are within none =
+      IsWithin-report limits endpoint records (filter test rows) after (IsAscending-filter membership_order test rows ascends) are.ascend (IsWithin-filter limits test rows within) none
+      (λ at apart. are.each at ∙ ap (λ (here : Bool). if here then membership_in own at else only test (membership_in rows at)) apart ∙ sym (membership_in-filter test rows at ascends))
+      (λ group membership silent found. membership_in-filter test rows (endpoint_group endpoint group) ascends
+      ∙ (own_row (endpoint_group endpoint group) membership
+      (ap (λ (here : Bool). if here then membership_in own (endpoint_group endpoint group) else only test (membership_in rows (endpoint_group endpoint group))) (sym (ap is_eq (tied_itself endpoint_order-total endpoint)))
+      ∙ sym (are.each (endpoint_group endpoint group)) ∙ found)).old silent)
 
 All-below : (bound most : ℕ) (rows : List Membership) → bound < most → AllByRecursion (λ membership. size membership ≤ bound) rows → AllByRecursion (λ membership. size membership < most) rows
 All-below bound most [] less each = tt
@@ -190,12 +174,12 @@ pub sizes_fit : (limits : Limits) (lifetime moment : ℕ) (endpoint : EndpointVa
 sizes_fit limits lifetime moment endpoint records rows own slice lawful within items owned same =
     let most = lawful.sources in
     subst (AllByRecursion (λ (membership : Membership). size membership < 2 ^ 32)) (sym same)
-    (All-below (limits.sources + item_count records) (2 ^ 32) own (omega arith) (own_sizes limits lifetime moment endpoint records rows own lawful.some_time owned within))
+    (All-below (limits.sources + item_count records) (2 ^ 32) own (omega arith) (own_sizes lifetime moment endpoint records rows own lawful.some_time owned limits within))
 
 pub groups_fit : (limits : Limits) (lifetime moment : ℕ) (endpoint : EndpointValue) (records : List Record) (rows own slice : List Membership) → AreLawful limits lifetime → IsAscending membership_order rows → IsWithin limits rows
     → item_count records ≤ 16777216 → AreOwn lifetime moment endpoint records rows own → slice ≡ own → length slice < 2 ^ 32
 groups_fit limits lifetime moment endpoint records rows own slice lawful ascends within items owned same =
-    let few = own_few lifetime moment endpoint records rows own lawful.some_time ascends owned in
+    let few = own_few lifetime moment endpoint records rows own lawful.some_time owned ascends in
     let most = within.groups endpoint in
     let bound = lawful.groups in
     let long = ap (λ (all : List Membership). length all) same in

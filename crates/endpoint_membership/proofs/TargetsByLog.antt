@@ -5,14 +5,10 @@ use Rattle.amt_values.{specs.{declared.address.Ip.{Ip}, Order.{endpoint_order}, 
 use Rattle.source_filter.specs.{Filter.{admits}, declared.record.Record.{Record}}
 use Rattle.endpoint_membership.specs.{declared.change.Change.{Change, TheVariants.{Reported, Clear, Mark}}, Membership.{Membership, is_fresh, endpoint_group_of}, Admission.{is_admitted}, Stored.{AreTargets, is_target, only}, Limits.{live_count}, Log.{latest}}
 use Rattle.endpoint_membership.specs.{EndpointGroup.{EndpointGroup, endpoint_group_order, same_endpoint, same_group, same_endpoint_group}, Memberships.{endpoint_groups_in, endpoint_groups_of, membership_in, membership_at}, Table.{AreMembershipsAt, Holds, TableValue, TableSettings}}
-use Rattle.endpoint_membership.{specs.Targets.{endpoints_in, targets_of}, proofs.{MembershipsByLog.{bare}, CountedRows.{length-within}, CountedLive.{endpoints_of}, FewRows.{All-own}, MembershipIn.{GivesItsEndpointGroup-membership_in}, ReportBounds.{All-at, given_by}, EndpointGroupOrder.{same_endpoint_group-is}, RowsAdmit.{admits-none, admits-row}, MembershipAt.{membership_at-later}}}
+use Rattle.endpoint_membership.{specs.Targets.{endpoints_in, targets_of}, proofs.{MembershipsByLog.{bare}, CountedLive.{endpoints_of, length-within}, FewRows.{All-own}, MembershipIn.{GivesItsEndpointGroup-membership_in}, ReportBounds.{All-at, given_by, some_by}, EndpointGroupOrder.{same_endpoint_group-is}, MembershipAt.{admits-none, admits-row, membership_at-later}}}
 
 abbrev at : EndpointValue → Ip → EndpointGroup
 at endpoint group = record { endpoint = endpoint; group = group }
-
-some_by : (test : Membership → Bool) (found : Option Membership) → is_some (only test found) ≡ true → is_some found ≡ true
-some_by test None some = some
-some_by test (Some membership) some = refl
 
 -- the endpoint of a membership is among those of all
 listed : (rows : List Membership) (endpoint_group : EndpointGroup) → is_some (membership_in rows endpoint_group) ≡ true → has endpoint_order (endpoints_of rows) endpoint_group.endpoint ≡ true

@@ -3,7 +3,7 @@ use Rattle.std.{proofs.{Common.{◌≡◌, ℕ, ◌≤◌, Bool, true, false, co
 use Rattle.amt_values.{specs.{declared.address.Ip.{Ip}, EndpointValue.{EndpointValue}, Ascending.{IsAscending}}, proofs.Orders.{endpoint_order-exact}}
 use Rattle.source_filter.specs.declared.record.Record.{Record}
 use Rattle.endpoint_membership.specs.{Limits.{IsWithin, first_limit, group_count, is_too_wide, live_count, size}, EndpointMemberships.{limit_by}, Log.{on_group}, EndpointGroup.{EndpointGroup, same_endpoint, same_group}, Membership.{membership_order, Membership}}
-use Rattle.endpoint_membership.{specs.{Memberships.{membership_in}, declared.limits.Limits.{Limits}}, proofs.{ReportBounds.{All-at}, CountedRows.{group_count-filter, live_count-filter}, LimitOrder.{first_limit-by}, MembershipIn.{All-from_membership_in, GivesItsEndpointGroup-membership_in, same_where}}}
+use Rattle.endpoint_membership.{specs.{Memberships.{membership_in}, declared.limits.Limits.{Limits}}, proofs.{ReportBounds.{All-at}, CountedLive.{group_count-filter, live_count-filter}, LimitByOwn.{first_limit-by}, MembershipIn.{All-from_membership_in, GivesItsEndpointGroup-membership_in, same_where}}}
 
 membership_all : (P : Membership → Type 0) (passes : Bool) (membership : Membership) (some : List Membership) → P membership → AllByRecursion P some → AllByRecursion P (cond passes (membership ∷ some) some)
 membership_all P true membership some here rest = (here, rest)

@@ -2,7 +2,7 @@ use Rattle.std.{proofs.Common.{◌≡◌, ℕ, List, Result, Ok, Err, IfOk, OnOk
 use Rattle.amt_values.specs.{declared.address.Ip.{Ip}, Order.{ip_order}, EndpointValue.{EndpointValue}, Ascending.{IsAscending}}
 use Rattle.source_filter.specs.declared.record.Record.{Record}
 use Rattle.endpoint_membership.specs.{declared.after_report.{OwnAfter.{OwnAfter}, RenewedFilter.{RenewedFilter}}, EndpointMemberships.{AreGone, AreOf, AreOwn, gone_of_entry, membership_of_entry, membership_of_renewed, renewed_filter_after_all, renewed_filter_of}}
-use Rattle.endpoint_membership.{specs.{Log.{on_group}, Membership.{Membership, is_fresh, membership_order}, Memberships.{membership_in}, Stored.{only}}, proofs.{FilterMap.{AreOf-filters, IsAscending-filters, membership_in-filters}, GonePairs.{AreGone-filters}}}
+use Rattle.endpoint_membership.{specs.{Log.{on_group}, Membership.{Membership, is_fresh, membership_order}, Memberships.{membership_in}, Stored.{only}}, proofs.{FilterMap.{AreGone-filters, AreOf-filters, IsAscending-filters, membership_in-filters}}}
 use Rattle.endpoint_membership.proofs.after_report.memberships_after.Goals as goal
 
 own_by : {E : Type 0} (lifetime moment : ℕ) (endpoint : EndpointValue) (records : List Record) (rows : List Membership) (filters : BTreeMap Ip RenewedFilter) (answer : Result OwnAfter E)

@@ -1,4 +1,4 @@
-use Rattle.endpoint_membership.proofs.{AdmittedRows.{rows_admit-log}, RowsAdmit.{admits-none, admits-row}}
+use Rattle.endpoint_membership.proofs.{AdmittedRows.{rows_admit-log}, MembershipAt.{admits-none, admits-row}}
 use Rattle.endpoint_membership.proofs.laws.rows_admit_by_the_newest_record.Goals as goal
 
 pub returns-clause-row : goal.returns-clause-row

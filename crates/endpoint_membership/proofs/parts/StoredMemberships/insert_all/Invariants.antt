@@ -1,6 +1,6 @@
 use Rattle.std.{proofs.Common.{◌≡◌, None}, specs.{Option.{option_or}, Vec.Iter.{into_iter_items}}}
 use Rattle.amt_values.specs.Ascending.{IsAscending}
-use Rattle.endpoint_membership.{specs.{EndpointGroup.{EndpointGroup}, Membership.{membership_order}, Memberships.{membership_in}}, proofs.SetTogether.{AreAbsent}}
+use Rattle.endpoint_membership.{specs.{EndpointGroup.{EndpointGroup}, Membership.{membership_order}, Memberships.{membership_in}}, proofs.SetAt.{AreAbsent}}
 use Rattle.endpoint_membership.proofs.parts.StoredMemberships.insert_all.Given as goal
 
 abbrev pub invariant-loop-membership : goal.invariant-loop-membership

@@ -1,6 +1,6 @@
 use Rattle.std.proofs.{Common.{◌++◌, ◌∷◌, [], None, Option, List, if◌then◌else◌, take, sym, ap, ◌∙◌}, lemmas.List.{take_more}}
 use Rattle.amt_values.specs.Ascending.{has}
-use Rattle.endpoint_membership.{specs.{EndpointGroup.{EndpointGroup, endpoint_group_order, same_endpoint_group}, Membership.{Membership}, Memberships.{membership_in}}, proofs.SetTogether.{one_more_removed}}
+use Rattle.endpoint_membership.{specs.{EndpointGroup.{EndpointGroup, endpoint_group_order, same_endpoint_group}, Membership.{Membership}, Memberships.{membership_in}}, proofs.SetAt.{one_more_removed}}
 use Rattle.endpoint_membership.proofs.parts.StoredMemberships.remove_all.Goals as goal
 
 pub loop-at-preserved : goal.loop-at-preserved

@@ -1,5 +1,5 @@
 use Rattle.std.{proofs.Common.{◌≡◌, List, true, is_some, sym, ap, subst, ◌∙◌}, specs.{List.{AllByRecursion}, Option.{option_or}}}
-use Rattle.endpoint_membership.{specs.{Membership.{Membership, endpoint_group_of}, Memberships.{membership_in}}, proofs.ReplacedFilters.{AreAgreed-put}}
+use Rattle.endpoint_membership.{specs.{Membership.{Membership, endpoint_group_of}, Memberships.{membership_in}}, proofs.RenewedTogether.{AreAgreed-put}}
 use Rattle.endpoint_membership.proofs.parts.StoredMemberships.renew.Goals as goal
 
 pub returns-in_err-stage-clause-ascends : goal.returns-in_err-stage-clause-ascends

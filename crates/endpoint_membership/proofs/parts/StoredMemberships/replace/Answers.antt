@@ -1,6 +1,6 @@
 use Rattle.std.{proofs.Common.{◌≡◌, true, not, filter, Option, None, if◌then◌else◌, List, sym, ap, subst, ◌∙◌}, specs.{List.{AllByRecursion}, Option.{option_or}}}
 use Rattle.amt_values.{specs.Ascending.{IsAscending, has}, proofs.AscendingLaws.{IsAscending-filter}}
-use Rattle.endpoint_membership.{specs.{EndpointGroup.{endpoint_group_order}, Membership.{Membership, endpoint_group_of, membership_order}, Memberships.{membership_in}, Stored.{is_known}}, proofs.{KeysTogether.{All-passing}, SetTogether.{All-absent, parted_again}}}
+use Rattle.endpoint_membership.{specs.{EndpointGroup.{endpoint_group_order}, Membership.{Membership, endpoint_group_of, membership_order}, Memberships.{membership_in}, Stored.{is_known}}, proofs.{KeysTogether.{All-passing}, SetAt.{All-absent, parted_again}}}
 use Rattle.endpoint_membership.proofs.parts.StoredMemberships.replace.Goals as goal
 
 pub set_all-requires-clause-added : goal.set_all-requires-clause-added

@@ -1,6 +1,6 @@
 use Rattle.std.proofs.Common.{None, List, if◌then◌else◌, ap, ◌∙◌}
 use Rattle.amt_values.specs.Ascending.{has}
-use Rattle.endpoint_membership.{specs.{EndpointGroup.{EndpointGroup, endpoint_group_order}, Memberships.{membership_in}}, proofs.SetTogether.{undone}}
+use Rattle.endpoint_membership.{specs.{EndpointGroup.{EndpointGroup, endpoint_group_order}, Memberships.{membership_in}}, proofs.SetAt.{undone}}
 use Rattle.endpoint_membership.proofs.parts.StoredMemberships.set_all.Goals as goal
 
 pub returns-clause-err : goal.returns-clause-err

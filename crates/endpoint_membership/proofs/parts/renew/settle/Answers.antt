@@ -1,6 +1,6 @@
 use Rattle.std.{proofs.{Common.{List, sym, ap, subst, ◌∙◌}, lemmas.Map.Keys.{sorted_tail}}, specs.{Option.{option_or}, Vec.Iter.{into_iter_items}}}
 use Rattle.amt_values.specs.Ascending.{IsAscending}
-use Rattle.endpoint_membership.{specs.{Membership.{Membership, endpoint_group_of, membership_order}, Memberships.{membership_in}, Parts.{AreRenewalsOf}}, proofs.ReplacedFilters.{ArePresent, first_put, first_settled, same_found}}
+use Rattle.endpoint_membership.{specs.{Membership.{Membership, endpoint_group_of, membership_order}, Memberships.{membership_in}, Parts.{AreRenewalsOf}}, proofs.RenewedTogether.{ArePresent, first_put, first_settled, same_found}}
 use Rattle.endpoint_membership.proofs.parts.renew.settle.Goals as goal
 
 pub put_membership-requires : goal.put_membership-requires

@@ -18,5 +18,5 @@ returns-clause-stands c settings log holds =
     Holds-report settings _ log c.args.endpoint.now c.args.records.now c.args.at.now c.later-moment.result own c.self.invariant.0.some_time c.later-moment.ensures owned
     (subst (λ (table : TableValue). Holds settings table log) (sym c.self.view_is) holds) c.purge.new.self
     (subst (AreAfterReport c.self.inside.lifetime_ms c.later-moment.result c.args.endpoint.now c.self.inside.rows own) (sym c.purge.ensures)
-    (AreAfterReport-set c.self.inside.lifetime_ms c.later-moment.result c.args.endpoint.now c.args.records.now c.self.inside.rows own c.replace.new.self gone c.self.invariant.0.some_time c.in_ok-replace.ensures.ascends owned left
+    (AreAfterReport-set c.self.inside.lifetime_ms c.later-moment.result c.args.endpoint.now c.args.records.now c.self.inside.rows own c.self.invariant.0.some_time owned c.replace.new.self gone c.in_ok-replace.ensures.ascends left
     (λ at. c.in_ok-replace.ensures.ok at ∙ ap (λ (pairs : List EndpointGroup). if has endpoint_group_order pairs at then None else option_or (membership_in own at) (membership_in c.self.inside.rows at)) c.deref.ensures.value)))

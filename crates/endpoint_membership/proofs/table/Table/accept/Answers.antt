@@ -12,8 +12,8 @@ put_is c =
     let own = c.in-Ok.after.memberships.items in
     let left = subst (λ (table : TableValue). AreGone table.lifetime c.later-moment.result c.args.endpoint.now table.rows own c.in-Ok.after.gone.items) (sym c.self.view_is) c.in-Ok.ensures.gone in
     subst (AreAfterReport c.self.inside.lifetime_ms c.later-moment.result c.args.endpoint.now c.self.inside.rows own) (sym c.purge.ensures)
-    (AreAfterReport-set c.self.inside.lifetime_ms c.later-moment.result c.args.endpoint.now c.args.records.now c.self.inside.rows own c.replace.new.self c.in-Ok.after.gone.items c.self.invariant.0.some_time
-    c.in-Ok-replace.ensures.ascends (owned_in c) left
+    (AreAfterReport-set c.self.inside.lifetime_ms c.later-moment.result c.args.endpoint.now c.args.records.now c.self.inside.rows own c.self.invariant.0.some_time (owned_in c) c.replace.new.self c.in-Ok.after.gone.items
+    c.in-Ok-replace.ensures.ascends left
     (λ at. c.in-Ok-replace.ensures.ok at ∙ ap (λ (pairs : List EndpointGroup). if has endpoint_group_order pairs at then None else option_or (membership_in own at) (membership_in c.self.inside.rows at)) c.deref-2.ensures.value))
 
 none_is : (c : goal.After-drop-gone-2) → limit_by_own c.self.inside.lifetime_ms c.later-moment.result c.self.inside.limits c.args.endpoint.now c.args.records.now c.self.inside.rows c.in-Ok.after.memberships.items ≡ None
@@ -58,8 +58,8 @@ returns-clause-stands c settings log holds =
 pub returns-clause-within : goal.returns-clause-within
 returns-clause-within c =
     let owned = owned_in c in
-    IsWithin-reported c.self.inside.limits c.self.inside.lifetime_ms c.later-moment.result c.args.endpoint.now c.args.records.now c.self.inside.rows c.in-Ok.after.memberships.items c.purge.new.self
-    c.self.invariant.0.some_time c.self.invariant.1 owned (put_is c) (subst IsWithinLimits (sym c.self.view_is) c.requires.within)
+    IsWithin-reported c.self.inside.lifetime_ms c.later-moment.result c.args.endpoint.now c.args.records.now c.self.inside.rows c.in-Ok.after.memberships.items c.self.invariant.0.some_time owned
+    c.self.inside.limits c.purge.new.self c.self.invariant.1 (put_is c) (subst IsWithinLimits (sym c.self.view_is) c.requires.within)
     (first_limit_is c.self.inside.lifetime_ms c.later-moment.result c.self.inside.limits c.args.endpoint.now c.args.records.now c.self.inside.rows c.in-Ok.after.memberships.items c.purge.new.self
     c.self.invariant.1 owned.ascends owned.of (put_is c) ∙ none_is c)
 

@@ -1,5 +1,5 @@
 use Rattle.std.proofs.Common.{sym, subst, arith}
-use Rattle.endpoint_membership.{specs.{Stored.{is_counted}, Table.{IsWithinLimits}}, proofs.CountedRows.{live_count-filter}}
+use Rattle.endpoint_membership.{specs.{Stored.{is_counted}, Table.{IsWithinLimits}}, proofs.CountedLive.{live_count-filter}}
 use Rattle.endpoint_membership.proofs.table.Table.limit_passed.Goals as goal
 
 pub overflow_add-live : goal.overflow_add-live
