@@ -1,15 +1,14 @@
 -- An accepted Update gives its outcome and entry, and no other event gives them; an accepted Teardown likewise.
-use Rattle.std.{proofs.Common.{◌≡◌, ℕ, nat_lt, Bool, true, false, List, length, Option, Some, None, Result, Ok, Err, if◌then◌else◌, refl, sym, ap, subst, ◌∙◌}, specs.Result.{IfOk}}
-use Rattle.amt_values.{specs.{Endpoint.{endpoint_of}, Group.{is_forwardable}, Octets.{AreOctets}, EndpointValue.{EndpointValue}, declared.{mac.Mac48.{Mac48}, peer.Peer.{Peer}}}, proofs.NetworkOrder.{AreOctets-drop}}
-use Rattle.amt_messages.{specs.{Refusal.{message_of}, declared.{message.Message.{Message, TheVariants.{Discovery, Advertisement, Request, Query, Update, Multicast, Teardown}}, refusal.Refused.{Refused}}}, proofs.{Spelled.{spelled_is_read}, Unrefused.{read_is_spelled}}}
+use Rattle.std.{proofs.Common.{◌≡◌, ℕ, Bool, true, List, Option, Some, None, Result, Ok, Err, if◌then◌else◌, refl, sym, ap, subst, ◌∙◌}, specs.Result.{IfOk}}
+use Rattle.amt_values.{specs.{Endpoint.{endpoint_of}, Octets.{AreOctets}, EndpointValue.{EndpointValue}, declared.{mac.Mac48.{Mac48}, peer.Peer.{Peer}}}, proofs.NetworkOrder.{AreOctets-drop}}
+use Rattle.amt_messages.{specs.{Refusal.{message_of}, declared.{message.Message.{Message, TheVariants.{Update, Teardown}}, refusal.Refused.{Refused}}}, proofs.{Spelled.{spelled_is_read}, Unrefused.{read_is_spelled}}}
 use Rattle.source_filter.specs.declared.record.Record.{Record}
 use Rattle.response_mac.specs.{ResponseMac.{is_good}, declared.{secret.Secret.{Secret}, secrets.Secrets.{Secrets}}}
-use Rattle.endpoint_membership.{specs.{Memberships.{is_live}, Table.{TableSettings, limit_passed, memberships_now}, declared.{change.Change.{Change, TheVariants.{Clear, Reported}}, limits.LimitFault.{LimitFault}}}, proofs.WithinLimits.{none_passed}}
-use Rattle.inner_datagrams.specs.{Head.{head_of}, declared.head.{Head.{Head}, HeadFault.{HeadFault}}}
-use Rattle.relay_machine.specs.declared.{event.Event.{Event, TheVariants.{Moment, Datagram, Packet, Rotate}}, outcome.{Outcome.TheVariants.{TooBig, TornDown, Updated}, Unlawful.{Unlawful}}, sends.Step.{Step}}
+use Rattle.endpoint_membership.{specs.{Memberships.{is_live}, Table.{limit_passed, memberships_now}, declared.{change.Change.{Change, TheVariants.{Clear, Reported}}, limits.LimitFault.{LimitFault}}}, proofs.WithinLimits.{none_passed}}
+use Rattle.relay_machine.specs.declared.{event.Event.{Event, TheVariants.{Moment, Datagram, Packet, Rotate}}, outcome.{Outcome.TheVariants.{TornDown, Updated}, Unlawful.{Unlawful}}, sends.Step.{Step}}
 use Rattle.relay_machine.specs.{declared.settings.Settings.{Settings}, Acceptance.{IsAcceptedTeardown, IsAcceptedUpdate, IsSomeAcceptedTeardown, IsSomeAcceptedUpdate}, Accepted.{accepted_log, change_of, handed_out}}
-use Rattle.relay_machine.specs.{Answers.{answer_of, outcome_of}, EventAnswer.{EventAnswer, datagram_answer, entered, limited_answer, packet_answer, teardown_answer, update_answer}, Events.{now_of, secrets_of}}
-use Rattle.relay_machine.{specs.{Packets.{by_head, by_scope, targets_at}, Settings.{table_settings_of}, Updates.{forwardable_records, report_in}}, proofs.{Goodness.{is_good-true}, Lawful.{lawful-report_in, report_in-lawful}, Limits.{always_within, within-report}}}
+use Rattle.relay_machine.specs.{Answers.{answer_of, outcome_of}, EventAnswer.{EventAnswer, datagram_answer, entered, limited_answer, teardown_answer, update_answer}, Events.{now_of, secrets_of}}
+use Rattle.relay_machine.{specs.{Settings.{table_settings_of}, Updates.{forwardable_records, report_in}}, proofs.{Goodness.{is_good-true}, Judged.{datagram-judged, packet-judged}, Lawful.{lawful-report_in, report_in-lawful}, Limits.{always_within, within-report}}}
 
 -- the answer to an Update with a good MAC, a lawful report and within the limits
 updated_answer : (settings : Settings) (secrets : Secrets) (moment : ℕ) (log : List Change) (from : Option EndpointValue) (reading : Result Message Refused) (source : EndpointValue) (mac : Mac48) (nonce : ℕ)
@@ -64,128 +63,6 @@ outcome-cleared settings first events event named teardown =
           ∙ ap (λ (test : Bool). if test then Some (Clear named (now_of events)) else None) teardown.live,
     )
 
--- what came where a datagram is judged to be an accepted Update
-record IsUpdateOf (terms : TableSettings) (secrets : Secrets) (moment : ℕ) (log : List Change) (from : Option EndpointValue) (reading : Result Message Refused) : Type 0 where
-  source : EndpointValue
-  mac : Mac48
-  nonce : ℕ
-  inner : List ℕ
-  records : List Record
-  comes_from : from ≡ Some source
-  read : reading ≡ Ok (Update mac nonce inner)
-  good : is_good secrets source nonce mac ≡ true
-  lawful : report_in inner ≡ Ok records
-  none : limit_passed terms log source (forwardable_records records) moment ≡ None
-
-limit-updated : (passed : Option LimitFault) (change : Change) → (limited_answer passed change).outcome ≡ Updated → passed ≡ None
-limit-updated None change same = refl
-limit-updated (Some fault) change same = cc
-
-update-updated : (good : Bool) (reading : Result (List Record) Unlawful) (passed : List Record → Option LimitFault) (source : EndpointValue) (moment : ℕ)
-    → (update_answer good reading passed source moment).outcome ≡ Updated
-    → (good ≡ true) × ((records : List Record) × (reading ≡ Ok records) × (passed (forwardable_records records) ≡ None))
-update-updated false reading passed source moment same = cc
-update-updated true (Err fault) passed source moment same = cc
-update-updated true (Ok records) passed source moment same =
-    (refl, (records, refl, limit-updated (passed (forwardable_records records)) (Reported source (forwardable_records records) moment) same))
-
-teardown-updated : (good live : Bool) (named : EndpointValue) (moment : ℕ) → (teardown_answer good live named moment).outcome ≡ Updated → ⊥
-teardown-updated false live named moment same = cc
-teardown-updated true true named moment same = cc
-teardown-updated true false named moment same = cc
-
-datagram-updated : (settings : Settings) (secrets : Secrets) (moment : ℕ) (log : List Change) (from : Option EndpointValue) (reading : Result Message Refused)
-    → (datagram_answer settings secrets moment log from reading).outcome ≡ Updated → IsUpdateOf (table_settings_of settings) secrets moment log from reading
-datagram-updated settings secrets moment log None reading same = cc
-datagram-updated settings secrets moment log (Some source) (Err refusal) same = cc
-datagram-updated settings secrets moment log (Some source) (Ok (Discovery nonce)) same = cc
-datagram-updated settings secrets moment log (Some source) (Ok (Advertisement nonce relay)) same = cc
-datagram-updated settings secrets moment log (Some source) (Ok (Request v6 nonce)) same = cc
-datagram-updated settings secrets moment log (Some source) (Ok (Query limited mac nonce inner seen)) same = cc
-datagram-updated settings secrets moment log (Some source) (Ok (Multicast packet)) same = cc
-datagram-updated settings secrets moment log (Some source) (Ok (Update mac nonce inner)) same =
-    let parts = update-updated (is_good secrets source nonce mac) (report_in inner) (λ (records : List Record). limit_passed (table_settings_of settings) log source records moment) source moment same in record {
-      source = source;
-      mac = mac;
-      nonce = nonce;
-      inner = inner;
-      records = parts.1.0;
-      comes_from = refl;
-      read = refl;
-      good = parts.0;
-      lawful = parts.1.1;
-      none = parts.1.2;
-    }
-datagram-updated settings secrets moment log (Some source) (Ok (Teardown mac nonce named)) same =
-    absurd (teardown-updated (is_good secrets named nonce mac) (is_live named (memberships_now (table_settings_of settings) log)) named moment same)
-
--- what came where it is judged to be an accepted Teardown
-record IsTeardownOf (terms : TableSettings) (secrets : Secrets) (log : List Change) (from : Option EndpointValue) (reading : Result Message Refused) : Type 0 where
-  sender : EndpointValue
-  mac : Mac48
-  nonce : ℕ
-  named : EndpointValue
-  comes_from : from ≡ Some sender
-  read : reading ≡ Ok (Teardown mac nonce named)
-  good : is_good secrets named nonce mac ≡ true
-  live : is_live named (memberships_now terms log) ≡ true
-
-limit-torn : (passed : Option LimitFault) (change : Change) → (limited_answer passed change).outcome ≡ TornDown → ⊥
-limit-torn None change same = cc
-limit-torn (Some fault) change same = cc
-
-update-torn : (good : Bool) (reading : Result (List Record) Unlawful) (passed : List Record → Option LimitFault) (source : EndpointValue) (moment : ℕ)
-    → (update_answer good reading passed source moment).outcome ≡ TornDown → ⊥
-update-torn false reading passed source moment same = cc
-update-torn true (Err fault) passed source moment same = cc
-update-torn true (Ok records) passed source moment same =
-    limit-torn (passed (forwardable_records records)) (Reported source (forwardable_records records) moment) same
-
-teardown-torn : (good live : Bool) (named : EndpointValue) (moment : ℕ) → (teardown_answer good live named moment).outcome ≡ TornDown → (good ≡ true) × (live ≡ true)
-teardown-torn false live named moment same = cc
-teardown-torn true true named moment same = (refl, refl)
-teardown-torn true false named moment same = cc
-
-datagram-torn : (settings : Settings) (secrets : Secrets) (moment : ℕ) (log : List Change) (from : Option EndpointValue) (reading : Result Message Refused)
-    → (datagram_answer settings secrets moment log from reading).outcome ≡ TornDown → IsTeardownOf (table_settings_of settings) secrets log from reading
-datagram-torn settings secrets moment log None reading same = cc
-datagram-torn settings secrets moment log (Some source) (Err refusal) same = cc
-datagram-torn settings secrets moment log (Some source) (Ok (Discovery nonce)) same = cc
-datagram-torn settings secrets moment log (Some source) (Ok (Advertisement nonce relay)) same = cc
-datagram-torn settings secrets moment log (Some source) (Ok (Request v6 nonce)) same = cc
-datagram-torn settings secrets moment log (Some source) (Ok (Query limited mac nonce inner seen)) same = cc
-datagram-torn settings secrets moment log (Some source) (Ok (Multicast packet)) same = cc
-datagram-torn settings secrets moment log (Some source) (Ok (Update mac nonce inner)) same =
-    absurd (update-torn (is_good secrets source nonce mac) (report_in inner) (λ (records : List Record). limit_passed (table_settings_of settings) log source records moment) source moment same)
-datagram-torn settings secrets moment log (Some source) (Ok (Teardown mac nonce named)) same =
-    let parts = teardown-torn (is_good secrets named nonce mac) (is_live named (memberships_now (table_settings_of settings) log)) named moment same in record {
-      sender = source;
-      mac = mac;
-      nonce = nonce;
-      named = named;
-      comes_from = refl;
-      read = refl;
-      good = parts.0;
-      live = parts.1;
-    }
-
--- a packet comes to neither
-scope-neither : (forwards : Bool) (head : Head) (targets : Head → List EndpointValue) (packet : List ℕ)
-    → ((packet_answer targets packet (by_scope forwards head)).outcome ≡ Updated → ⊥) × ((packet_answer targets packet (by_scope forwards head)).outcome ≡ TornDown → ⊥)
-scope-neither true head targets packet = (λ same. cc, λ same. cc)
-scope-neither false head targets packet = (λ same. cc, λ same. cc)
-
-head-neither : (reading : Result Head HeadFault) (targets : Head → List EndpointValue) (packet : List ℕ)
-    → ((packet_answer targets packet (by_head reading)).outcome ≡ Updated → ⊥) × ((packet_answer targets packet (by_head reading)).outcome ≡ TornDown → ⊥)
-head-neither (Err fault) targets packet = (λ same. cc, λ same. cc)
-head-neither (Ok head) targets packet = scope-neither (is_forwardable head.group) head targets packet
-
-pub packet-neither : (big : Bool) (octets : ℕ) (reading : Result Head HeadFault) (targets : Head → List EndpointValue) (packet : List ℕ)
-    → ((packet_answer targets packet (if big then Err (TooBig octets) else by_head reading)).outcome ≡ Updated → ⊥)
-    × ((packet_answer targets packet (if big then Err (TooBig octets) else by_head reading)).outcome ≡ TornDown → ⊥)
-packet-neither true octets reading targets packet = (λ same. cc, λ same. cc)
-packet-neither false octets reading targets packet = head-neither reading targets packet
-
 -- what comes as a datagram is octets
 abbrev pub AreOctetsIn : Event → Type 0
 AreOctetsIn event = (from : Peer) (bytes : List ℕ) → event ≡ Datagram bytes from → AreOctets bytes
@@ -196,11 +73,11 @@ pub accepted-updated : (settings : Settings) (first : Secret) (events : List Eve
 accepted-updated settings first events (Moment moment) octets same = cc
 accepted-updated settings first events (Rotate secret) octets same = cc
 accepted-updated settings first events (Packet bytes) octets same =
-    absurd ((packet-neither (nat_lt settings.packet_limit (length bytes)) (length bytes) (head_of bytes) (targets_at (table_settings_of settings) (accepted_log settings first events) (now_of events)) bytes).0 same)
+    absurd ((packet-judged settings (secrets_of first events) (now_of events) (accepted_log settings first events) bytes).updated same)
 accepted-updated settings first events (Datagram bytes from) octets same =
     let terms = table_settings_of settings in
     let log = accepted_log settings first events in
-    let update = datagram-updated settings (secrets_of first events) (now_of events) log (endpoint_of from) (message_of bytes) same in
+    let update = (datagram-judged settings (secrets_of first events) (now_of events) log (endpoint_of from) (message_of bytes)).updated same in
     let spelled = read_is_spelled bytes (Update update.mac update.nonce update.inner) update.read in
     let small : AreOctets update.inner = subst AreOctets (sym spelled.inner_field) (AreOctets-drop 12 bytes (octets from bytes refl)) in (
       update.source,
@@ -226,9 +103,9 @@ pub accepted-torn : (settings : Settings) (first : Secret) (events : List Event)
 accepted-torn settings first events (Moment moment) same = cc
 accepted-torn settings first events (Rotate secret) same = cc
 accepted-torn settings first events (Packet bytes) same =
-    absurd ((packet-neither (nat_lt settings.packet_limit (length bytes)) (length bytes) (head_of bytes) (targets_at (table_settings_of settings) (accepted_log settings first events) (now_of events)) bytes).1 same)
+    absurd ((packet-judged settings (secrets_of first events) (now_of events) (accepted_log settings first events) bytes).torn same)
 accepted-torn settings first events (Datagram bytes from) same =
-    let teardown = datagram-torn settings (secrets_of first events) (now_of events) (accepted_log settings first events) (endpoint_of from) (message_of bytes) same in (
+    let teardown = (datagram-judged settings (secrets_of first events) (now_of events) (accepted_log settings first events) (endpoint_of from) (message_of bytes)).torn same in (
       teardown.named,
       record {
         from = from;

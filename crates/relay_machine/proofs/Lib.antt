@@ -3,6 +3,7 @@ pub mod Answering
 pub mod Copies
 pub mod Courses
 pub mod Goodness
+pub mod Judged
 pub mod Lawful
 pub mod Limits
 pub mod Numbers

@@ -1,14 +1,11 @@
 -- The memberships by the accepted log are within the limits, whatever the events.
-use Rattle.std.proofs.{Common.{◌≡◌, ℕ, max, Bool, true, false, List, [], ◌∷◌, ◌++◌, reverse, filter, Option, Some, None, Result, Ok, Err, if◌then◌else◌, refl, sym, ap, subst, ◌∙◌, arith}, lemmas.List.{reverse-append}}
-use Rattle.amt_values.specs.{Endpoint.{endpoint_of}, EndpointValue.{EndpointValue}}
-use Rattle.amt_messages.specs.{declared.{message.Message.{Message, TheVariants.{Discovery, Advertisement, Request, Query, Update, Multicast, Teardown}}, refusal.Refused.{Refused}}, Refusal.{message_of}}
-use Rattle.response_mac.specs.{declared.{secret.Secret.{Secret}, secrets.Secrets.{Secrets}}, ResponseMac.{is_good}}
+use Rattle.std.proofs.{Common.{◌≡◌, ℕ, max, Bool, true, false, List, [], ◌∷◌, ◌++◌, reverse, filter, Option, Some, None, if◌then◌else◌, refl, sym, ap, subst, ◌∙◌, arith}, lemmas.List.{reverse-append}}
+use Rattle.amt_values.specs.EndpointValue.{EndpointValue}
+use Rattle.response_mac.specs.declared.secret.Secret.{Secret}
 use Rattle.source_filter.specs.declared.record.Record.{Record}
-use Rattle.inner_datagrams.specs.declared.head.Head.{Head}
-use Rattle.endpoint_membership.specs.{Membership.{is_fresh, Membership}, Limits.{IsWithin}, Log.{latest, on_group, records_at}, EndpointGroup.{EndpointGroup, same_endpoint}, Memberships.{is_live, membership_in}, Table.{AreMembershipsAt, Holds, TableValue, TableSettings, limit_passed, memberships_now}, declared.change.Change.{Change}}
-use Rattle.endpoint_membership.{specs.declared.{change.Change.TheVariants.{Mark, Reported}, limits.LimitFault.{LimitFault}}, proofs.{MembershipsByLog.{AreMembershipsAt-memberships_at}, Clearings.{IsWithin-cleared}, HoldsAfter.{Holds-mark, IsWithin-log, latest-push}, MembershipAt.{membership_at-other}, AfterEntries.{AreMembershipsAt-later}, WithinLimits.{IsWithin-filter, IsWithin-report}}}
-use Rattle.relay_machine.specs.{declared.{event.Event.{Event, TheVariants.{Moment, Datagram, Packet, Rotate}}, outcome.{Unlawful.{Unlawful}, Outcome.{Outcome}}, settings.Settings.{Settings}}, Accepted.{accepted_back, accepted_log, with_change}}
-use Rattle.relay_machine.specs.{EventAnswer.{datagram_answer, limited_answer, message_answer, packet_answer, teardown_answer, update_answer}, Events.{now_of, secrets_of}, Settings.{table_settings_of}, Packets.{head_to_copy, targets_at}, Updates.{forwardable_records, report_in}}
+use Rattle.endpoint_membership.specs.{Membership.{is_fresh, Membership}, Limits.{IsWithin}, Log.{latest, on_group, records_at}, EndpointGroup.{EndpointGroup, same_endpoint}, Memberships.{membership_in}, Table.{AreMembershipsAt, Holds, TableValue, TableSettings, limit_passed, memberships_now}}
+use Rattle.endpoint_membership.{specs.declared.change.Change.{Change, TheVariants.{Clear, Mark, Reported}}, proofs.{MembershipsByLog.{AreMembershipsAt-memberships_at}, Clearings.{IsWithin-cleared}, HoldsAfter.{Holds-mark, IsWithin-log, latest-push}, MembershipAt.{membership_at-other}, AfterEntries.{AreMembershipsAt-later}, WithinLimits.{IsWithin-filter, IsWithin-report}}}
+use Rattle.relay_machine.{specs.{declared.{event.Event.{Event, TheVariants.{Moment}}, settings.Settings.{Settings}}, Accepted.{accepted_back, accepted_log, entry_after, with_change}, Events.{now_of, secrets_of}, Settings.{table_settings_of}}, proofs.Judged.{MayEnter, may-enter}}
 
 -- the memberships by the log are within the limits
 abbrev IsLogWithin : TableSettings → List Change → Type 0
@@ -57,58 +54,22 @@ within-report terms log source records at none within =
     sym (row_unconcerned terms.lifetime moment entry log rows after (record { endpoint = source; group = group }) before later_rows
     (silent_by (same_endpoint source source) (on_group group records) silent)) ∙ found)
 
-within-limit : (terms : TableSettings) (log : List Change) (source : EndpointValue) (records : List Record) (at : ℕ) (passed : Option LimitFault) → limit_passed terms log source records at ≡ passed
-    → IsLogWithin terms log → IsLogWithin terms (with_change log (limited_answer passed (Reported source records at)).entry)
-within-limit terms log source records at None none within = within-report terms log source records at none within
-within-limit terms log source records at (Some fault) passed within = within
-
-within-update : (terms : TableSettings) (log : List Change) (source : EndpointValue) (at : ℕ) (good : Bool) (reading : Result (List Record) Unlawful) → IsLogWithin terms log
-    → IsLogWithin terms (with_change log (update_answer good reading (λ records. limit_passed terms log source records at) source at).entry)
-within-update terms log source at false reading within = within
-within-update terms log source at true (Err fault) within = within
-within-update terms log source at true (Ok records) within = within-limit terms log source (forwardable_records records) at _ refl within
-
-within-teardown : (terms : TableSettings) (log : List Change) (endpoint : EndpointValue) (at : ℕ) (good live : Bool) → IsLogWithin terms log
-    → IsLogWithin terms (with_change log (teardown_answer good live endpoint at).entry)
-within-teardown terms log endpoint at false live within = within
-within-teardown terms log endpoint at true true within = IsWithin-cleared terms.limits terms log endpoint at within
-within-teardown terms log endpoint at true false within = IsWithin-cleared terms.limits terms log endpoint at within
-
-within-message : (settings : Settings) (secrets : Secrets) (at : ℕ) (log : List Change) (source : EndpointValue) (message : Message) → IsLogWithin (table_settings_of settings) log
-    → IsLogWithin (table_settings_of settings) (with_change log (message_answer settings secrets at log source message).entry)
-within-message settings secrets at log source (Discovery nonce) within = within
-within-message settings secrets at log source (Advertisement nonce relay) within = within
-within-message settings secrets at log source (Request v6 nonce) within = within
-within-message settings secrets at log source (Query limited mac nonce inner seen) within = within
-within-message settings secrets at log source (Update mac nonce inner) within =
-    within-update (table_settings_of settings) log source at (is_good secrets source nonce mac) (report_in inner) within
-within-message settings secrets at log source (Multicast packet) within = within
-within-message settings secrets at log source (Teardown mac nonce named) within =
-    within-teardown (table_settings_of settings) log named at (is_good secrets named nonce mac) (is_live named (memberships_now (table_settings_of settings) log)) within
-
-within-datagram : (settings : Settings) (secrets : Secrets) (at : ℕ) (log : List Change) (source : Option EndpointValue) (reading : Result Message Refused) → IsLogWithin (table_settings_of settings) log
-    → IsLogWithin (table_settings_of settings) (with_change log (datagram_answer settings secrets at log source reading).entry)
-within-datagram settings secrets at log None reading within = within
-within-datagram settings secrets at log (Some source) (Err refusal) within = within
-within-datagram settings secrets at log (Some source) (Ok message) within = within-message settings secrets at log source message within
-
-within-packet : (terms : TableSettings) (log : List Change) (targets : Head → List EndpointValue) (packet : List ℕ) (reading : Result Head Outcome) → IsLogWithin terms log
-    → IsLogWithin terms (with_change log (packet_answer targets packet reading).entry)
-within-packet terms log targets packet (Ok head) within = within
-within-packet terms log targets packet (Err outcome) within = within
+-- by an entry that may be made
+within-entry : (terms : TableSettings) (log : List Change) (moment : ℕ) (entry : Option Change) → MayEnter terms log moment entry → IsLogWithin terms log → IsLogWithin terms (with_change log entry)
+within-entry terms log moment None may within = within
+within-entry terms log moment (Some (Mark at)) may within = within-mark terms log at within
+within-entry terms log moment (Some (Clear endpoint at)) may within = IsWithin-cleared terms.limits terms log endpoint at within
+within-entry terms log moment (Some (Reported source records at)) may within = within-report terms log source records at may.1 within
 
 within-back : (settings : Settings) (first : Secret) (back : List Event) → IsLogWithin (table_settings_of settings) (accepted_back settings first back)
 unfolding accepted_back
 within-back settings first [] = record { endpoints = omega arith; groups = λ endpoint. omega arith; sources = tt }
 within-back settings first (Moment moment ∷ earlier) =
     within-mark (table_settings_of settings) (accepted_back settings first earlier) (max (now_of (reverse earlier)) moment) (within-back settings first earlier)
-within-back settings first (Rotate secret ∷ earlier) = within-back settings first earlier
-within-back settings first (Packet bytes ∷ earlier) =
+within-back settings first (event ∷ earlier) =
     let log = accepted_back settings first earlier in
-    within-packet (table_settings_of settings) log (targets_at (table_settings_of settings) log (now_of (reverse earlier))) bytes (head_to_copy settings.packet_limit bytes) (within-back settings first earlier)
-within-back settings first (Datagram bytes from ∷ earlier) =
-    within-datagram settings (secrets_of first (reverse earlier)) (now_of (reverse earlier)) (accepted_back settings first earlier) (endpoint_of from) (message_of bytes)
-    (within-back settings first earlier)
+    let now = now_of (reverse earlier) in
+    within-entry (table_settings_of settings) log now (entry_after settings first (reverse earlier) log event) (may-enter settings (secrets_of first (reverse earlier)) now log event refl) (within-back settings first earlier)
 
 pub always_within : (settings : Settings) (first : Secret) (events : List Event)
     → IsWithin settings.limits (memberships_now (table_settings_of settings) (accepted_log settings first events))

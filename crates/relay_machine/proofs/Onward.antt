@@ -1,26 +1,11 @@
 -- Where one more event leaves a relay.
-use Rattle.std.{proofs.{Common.{◌≡◌, ◌≤◌, ℕ, max, Bool, true, false, List, [], ◌∷◌, ◌++◌, Option, Some, None, Result, Ok, Err, refl, sym, ap, subst, ◌∙◌, arith}, Math.Logic.{∥∥₁_elim, ∥∥₁_map, ∥∥₁_prop}, Props.{props}, lemmas.List.{append-nil, reverse-append, reverse-reverse, Elements.{filter_map-append}, Sums.{fold-append}}}, specs.{Coded.{le_prop}, List.{fold, filter_map}, Result.{IfOk, OnErr}}}
+use Rattle.std.{proofs.{Common.{◌≡◌, ◌≤◌, ℕ, max, List, [], ◌∷◌, ◌++◌, Option, Result, Ok, Err, refl, sym, ap, subst, ◌∙◌}, Math.Logic.{∥∥₁_elim, ∥∥₁_map, ∥∥₁_prop}, Props.{props}, lemmas.List.{append-nil, reverse-append, reverse-reverse, Elements.{filter_map-append}}}, specs.{Coded.{le_prop}, List.{filter_map}, Result.{IfOk, OnErr}}}
 use mathlib.Core.HLevel.{is_prop→PathP}
-use Rattle.amt_values.specs.{Endpoint.{endpoint_of}, EndpointValue.{EndpointValue}}
-use Rattle.amt_messages.specs.{declared.{message.Message.{Message, TheVariants.{Discovery, Advertisement, Request, Query, Update, Multicast, Teardown}}, refusal.Refused.{Refused}}, Refusal.{message_of}}
-use Rattle.response_mac.specs.{declared.{secret.Secret.{Secret}, secrets.Secrets.{Secrets}}, ResponseMac.{is_good, secrets_after}}
-use Rattle.inner_datagrams.specs.declared.head.Head.{Head}
-use Rattle.source_filter.specs.declared.record.Record.{Record}
-use Rattle.endpoint_membership.specs.{Limits.{AreFew, IsWithin}, Log.{latest}, Memberships.{is_live}, Table.{Holds, IsWithinLimits, TableValue, TableSettings, limit_passed, memberships_now}, Targets.{TargetsValue}}
-use Rattle.endpoint_membership.{specs.declared.{change.Change.{Change, TheVariants.{Mark, Clear, Reported}}, limits.{LimitFault.{LimitFault}, Limits.{Limits}}, row.Row.{Row}}, proofs.HoldsAfter.{IsWithin-log, latest-push}}
-use Rattle.relay_machine.specs.{declared.{event.Event.{Event, TheVariants.{Moment, Datagram, Packet, Rotate}}, outcome.{Outcome.{Outcome}, Unlawful.{Unlawful}}, relay.Relay.{Relay}, sends.Step.{Step}, settings.Settings.{Settings}}, Accepted.{accepted_back, accepted_log, entry_after, entry_of, with_change}, Answers.{RelayAt, StandsFor, answer_of, moment_of, settings_of}, EventSize.{IsPayload}}
-use Rattle.relay_machine.specs.{EventAnswer.{EventAnswer, datagram_answer, event_answer, limited_answer, message_answer, packet_answer, teardown_answer, update_answer}, Events.{moment_in, now_of, secret_in, secrets_of}, Logs.{AnswersByLog, IsAnswered}, Packets.{head_to_copy, targets_at}, Settings.{table_settings_of}, State.{HasLog}, Updates.{forwardable_records, report_in}}
-
-pub now_of-moment : (events : List Event) (moment : ℕ) → now_of (events ++ Moment moment ∷ []) ≡ max (now_of events) moment
-unfolding now_of
-now_of-moment events moment =
-    ap (fold max 0) (filter_map-append moment_in events (Moment moment ∷ [])) ∙ fold-append max 0 (filter_map moment_in events) (moment ∷ [])
-
--- an event that reports no moment leaves the moment
-pub now_of-other : (events : List Event) (event : Event) → filter_map moment_in (event ∷ []) ≡ [] → now_of (events ++ event ∷ []) ≡ now_of events
-unfolding now_of
-now_of-other events event none =
-    ap (fold max 0) (filter_map-append moment_in events (event ∷ []) ∙ (ap (λ (reported : List ℕ). filter_map moment_in events ++ reported) none ∙ append-nil _))
+use Rattle.response_mac.specs.{declared.{secret.Secret.{Secret}, secrets.Secrets.{Secrets}}, ResponseMac.{secrets_after}}
+use Rattle.endpoint_membership.specs.{Limits.{AreFew, IsWithin}, Log.{latest}, Table.{Holds, IsWithinLimits, TableValue, TableSettings, memberships_now}, Targets.{TargetsValue}}
+use Rattle.endpoint_membership.{specs.declared.{change.Change.{Change, TheVariants.{Mark}}, limits.Limits.{Limits}, row.Row.{Row}}, proofs.HoldsAfter.{IsWithin-log}}
+use Rattle.relay_machine.specs.{declared.{event.Event.{Event, TheVariants.{Moment, Rotate}}, relay.Relay.{Relay}, sends.Step.{Step}, settings.Settings.{Settings}}, Accepted.{accepted_back, accepted_log, entry_after, entry_of, with_change}, Answers.{RelayAt, StandsFor, answer_of, moment_of, settings_of}, EventSize.{IsPayload}}
+use Rattle.relay_machine.{specs.{EventAnswer.{EventAnswer, event_answer}, Events.{now_of, secret_in, secrets_of}, Logs.{AnswersByLog, IsAnswered}, Settings.{table_settings_of}, State.{HasLog}}, proofs.Judged.{latest-accepted_log}}
 
 secrets_of-rotate : (first : Secret) (events : List Event) (secret : Secret)
     → secrets_of first (events ++ Rotate secret ∷ []) ≡ secrets_after first (filter_map secret_in events ++ secret ∷ [])
@@ -43,11 +28,6 @@ accepted-push settings first events event =
     let log = accepted_log settings first events in
     ap (accepted_back settings first) (reverse-append events (event ∷ []))
     ∙ ap (λ (earlier : List Event). with_change log (entry_after settings first earlier log event)) (reverse-reverse events)
-
--- the log's latest moment is the events'
-pub latest-accepted : (relay : Relay) (settings : Settings) (first : Secret) (events : List Event) → RelayAt relay settings first events
-    → latest (accepted_log settings first events) ≡ now_of events
-latest-accepted relay settings first events at = sym at.table.moment ∙ at.moment
 
 -- a relay's table represents the accepted log
 pub StandsFor-accepted : (relay : Relay) (settings : Settings) (first : Secret) (events : List Event) → RelayAt relay settings first events
@@ -92,6 +72,14 @@ Holds-push : (settings : Settings) (first : Secret) (events : List Event) (event
     → Holds (table_settings_of settings) table (accepted_log settings first (events ++ event ∷ []))
 Holds-push settings first events event table holds = subst (Holds (table_settings_of settings) table) (sym (accepted-push settings first events event)) holds
 
+-- the relay is where the events leave it, since the log is of their moment
+RelayAt-push : (after : Relay) (settings : Settings) (first : Secret) (events : List Event) (event : Event) → settings_of after ≡ settings → after.secrets ≡ secrets_of first (events ++ event ∷ [])
+    → Holds (table_settings_of settings) after.table (with_change (accepted_log settings first events) (entry_of settings first events event))
+    → RelayAt after settings first (events ++ event ∷ [])
+RelayAt-push after settings first events event same_settings same_secrets holds =
+    let table = Holds-push settings first events event after.table holds in
+    record { settings_kept = same_settings; secrets = same_secrets; table = table; moment = table.moment ∙ latest-accepted_log settings first (events ++ event ∷ []) }
+
 -- a moment moves the table on, and changes nothing else
 pub RelayAt-moment : (relay after : Relay) (settings : Settings) (first : Secret) (events : List Event) (moment later : ℕ) → RelayAt relay settings first events
     → settings_of after ≡ settings_of relay → after.secrets ≡ relay.secrets → later ≡ max (moment_of relay) moment
@@ -99,76 +87,13 @@ pub RelayAt-moment : (relay after : Relay) (settings : Settings) (first : Secret
     → RelayAt after settings first (events ++ Moment moment ∷ [])
 RelayAt-moment relay after settings first events moment later at same_settings same_secrets later_is marked =
     let log = accepted_log settings first events in
-    let held = marked (table_settings_of settings) log at.table in
-    let by_events : later ≡ max (now_of events) moment = later_is ∙ ap (λ (m : ℕ). max m moment) at.moment in
-    let shown_now = now_of-moment events moment in
-    let shown = held.moment in
-    let pushed = latest-push log (Mark later) in
-    let before = latest-accepted relay settings first events at in record {
-      settings_kept = same_settings ∙ at.settings_kept;
-      secrets = same_secrets ∙ (at.secrets ∙ sym (secrets_of-other first events (Moment moment) refl));
-      table = Holds-push settings first events (Moment moment) after.table (subst (λ (m : ℕ). Holds (table_settings_of settings) after.table (log ++ Mark m ∷ [])) by_events held);
-      moment = omega arith;
-    }
-
-limited-unmoved : (passed : Option LimitFault) (log : List Change) (source : EndpointValue) (records : List Record)
-    → latest (with_change log (limited_answer passed (Reported source records (latest log))).entry) ≡ latest log
-limited-unmoved None log source records = let pushed = latest-push log (Reported source records (latest log)) in omega arith
-limited-unmoved (Some fault) log source records = refl
-
-update-unmoved : (good : Bool) (reading : Result (List Record) Unlawful) (passed : List Record → Option LimitFault) (log : List Change) (source : EndpointValue)
-    → latest (with_change log (update_answer good reading passed source (latest log)).entry) ≡ latest log
-update-unmoved false reading passed log source = refl
-update-unmoved true (Err fault) passed log source = refl
-update-unmoved true (Ok records) passed log source = limited-unmoved (passed (forwardable_records records)) log source (forwardable_records records)
-
-teardown-unmoved : (good live : Bool) (log : List Change) (named : EndpointValue) → latest (with_change log (teardown_answer good live named (latest log)).entry) ≡ latest log
-teardown-unmoved false live log named = refl
-teardown-unmoved true true log named = let pushed = latest-push log (Clear named (latest log)) in omega arith
-teardown-unmoved true false log named = let pushed = latest-push log (Clear named (latest log)) in omega arith
-
-message-unmoved : (settings : Settings) (secrets : Secrets) (log : List Change) (source : EndpointValue) (message : Message)
-    → latest (with_change log (message_answer settings secrets (latest log) log source message).entry) ≡ latest log
-message-unmoved settings secrets log source (Discovery nonce) = refl
-message-unmoved settings secrets log source (Advertisement nonce relay) = refl
-message-unmoved settings secrets log source (Request v6 nonce) = refl
-message-unmoved settings secrets log source (Query limited mac nonce inner seen) = refl
-message-unmoved settings secrets log source (Update mac nonce inner) =
-    update-unmoved (is_good secrets source nonce mac) (report_in inner) (λ (records : List Record). limit_passed (table_settings_of settings) log source records (latest log)) log source
-message-unmoved settings secrets log source (Multicast packet) = refl
-message-unmoved settings secrets log source (Teardown mac nonce named) =
-    teardown-unmoved (is_good secrets named nonce mac) (is_live named (memberships_now (table_settings_of settings) log)) log named
-
-datagram-unmoved : (settings : Settings) (secrets : Secrets) (log : List Change) (source : Option EndpointValue) (reading : Result Message Refused)
-    → latest (with_change log (datagram_answer settings secrets (latest log) log source reading).entry) ≡ latest log
-datagram-unmoved settings secrets log None reading = refl
-datagram-unmoved settings secrets log (Some source) (Err refusal) = refl
-datagram-unmoved settings secrets log (Some source) (Ok message) = message-unmoved settings secrets log source message
-
-packet-unmoved : (log : List Change) (targets : Head → List EndpointValue) (packet : List ℕ) (reading : Result Head Outcome)
-    → latest (with_change log (packet_answer targets packet reading).entry) ≡ latest log
-packet-unmoved log targets packet (Ok head) = refl
-packet-unmoved log targets packet (Err outcome) = refl
-
--- what is entered of a datagram or a packet is made at the log's latest moment
-payload-unmoved : (settings : Settings) (secrets : Secrets) (log : List Change) (event : Event) → IsPayload event
-    → latest (with_change log (event_answer settings secrets (latest log) log event).entry) ≡ latest log
-payload-unmoved settings secrets log (Moment moment) payload = absurd payload
-payload-unmoved settings secrets log (Rotate secret) payload = absurd payload
-payload-unmoved settings secrets log (Packet bytes) payload = packet-unmoved log (targets_at (table_settings_of settings) log (latest log)) bytes (head_to_copy settings.packet_limit bytes)
-payload-unmoved settings secrets log (Datagram bytes from) payload = datagram-unmoved settings secrets log (endpoint_of from) (message_of bytes)
-
-payload_moment : (event : Event) → IsPayload event → filter_map moment_in (event ∷ []) ≡ []
-payload_moment (Moment moment) payload = absurd payload
-payload_moment (Rotate secret) payload = absurd payload
-payload_moment (Packet bytes) payload = refl
-payload_moment (Datagram bytes from) payload = refl
+    RelayAt-push after settings first events (Moment moment) (same_settings ∙ at.settings_kept) (same_secrets ∙ (at.secrets ∙ sym (secrets_of-other first events (Moment moment) refl)))
+    (subst (λ (m : ℕ). Holds (table_settings_of settings) after.table (log ++ Mark m ∷ [])) (later_is ∙ ap (λ (m : ℕ). max m moment) at.moment) (marked (table_settings_of settings) log at.table))
 
 payload_secret : (event : Event) → IsPayload event → filter_map secret_in (event ∷ []) ≡ []
 payload_secret (Moment moment) payload = absurd payload
 payload_secret (Rotate secret) payload = absurd payload
-payload_secret (Packet bytes) payload = refl
-payload_secret (Datagram bytes from) payload = refl
+payload_secret event payload = refl
 
 -- what is answered by the table's own log is what is answered by the events
 pub answered-after : {E : Type 0} (relay : Relay) (after : TableValue) (settings : Settings) (first : Secret) (events : List Event) (event : Event) (result : Result Step E)
@@ -178,7 +103,7 @@ pub answered-after : {E : Type 0} (relay : Relay) (after : TableValue) (settings
 answered-after relay after settings first events event result at answers =
     let log = accepted_log settings first events in
     let by : Settings → Secrets → ℕ → Type 0 = λ known secrets moment. IfOk result (IsAnswered (table_settings_of known) relay.table after log (event_answer known secrets moment log event)) in
-    subst (by settings (secrets_of first events)) (latest-accepted relay settings first events at)
+    subst (by settings (secrets_of first events)) (latest-accepted_log settings first events)
     (subst (λ (secrets : Secrets). by settings secrets (latest log)) at.secrets
     (subst (λ (known : Settings). by known relay.secrets (latest log)) at.settings_kept (answers log (StandsFor-accepted relay settings first events at))))
 
@@ -188,16 +113,7 @@ pub RelayAt-payload : (relay after : Relay) (settings : Settings) (first : Secre
     → Holds (table_settings_of settings) after.table (with_change (accepted_log settings first events) (entry_of settings first events event))
     → RelayAt after settings first (events ++ event ∷ [])
 RelayAt-payload relay after settings first events event at payload same_settings same_secrets holds =
-    let log = accepted_log settings first events in
-    let before = latest-accepted relay settings first events at in
-    let unmoved : latest (with_change log (entry_of settings first events event)) ≡ latest log =
-    subst (λ (m : ℕ). latest (with_change log (event_answer settings (secrets_of first events) m log event).entry) ≡ latest log) before
-    (payload-unmoved settings (secrets_of first events) log event payload) in record {
-      settings_kept = same_settings ∙ at.settings_kept;
-      secrets = same_secrets ∙ (at.secrets ∙ sym (secrets_of-other first events event (payload_secret event payload)));
-      table = Holds-push settings first events event after.table holds;
-      moment = holds.moment ∙ (unmoved ∙ (before ∙ sym (now_of-other events event (payload_moment event payload))));
-    }
+    RelayAt-push after settings first events event (same_settings ∙ at.settings_kept) (same_secrets ∙ (at.secrets ∙ sym (secrets_of-other first events event (payload_secret event payload)))) holds
 
 -- a secret is the last of the secrets, and nothing else changes
 pub RelayAt-rotate : (relay after : Relay) (settings : Settings) (first : Secret) (events : List Event) (secret : Secret) → RelayAt relay settings first events
@@ -205,12 +121,9 @@ pub RelayAt-rotate : (relay after : Relay) (settings : Settings) (first : Secret
     → ((f : Secret) (changes : List Secret) → relay.secrets ≡ secrets_after f changes → after.secrets ≡ secrets_after f (changes ++ secret ∷ []))
     → RelayAt after settings first (events ++ Rotate secret ∷ [])
 unfolding secrets_of
-RelayAt-rotate relay after settings first events secret at same_settings same_table appended = record {
-  settings_kept = same_settings ∙ at.settings_kept;
-  secrets = appended first (filter_map secret_in events) at.secrets ∙ sym (secrets_of-rotate first events secret);
-  table = Holds-push settings first events (Rotate secret) after.table (subst (λ (table : TableValue). Holds (table_settings_of settings) table (accepted_log settings first events)) (sym same_table) at.table);
-  moment = ap (λ (table : TableValue). table.moment) same_table ∙ (at.moment ∙ sym (now_of-other events (Rotate secret) refl));
-}
+RelayAt-rotate relay after settings first events secret at same_settings same_table appended =
+    RelayAt-push after settings first events (Rotate secret) (same_settings ∙ at.settings_kept) (appended first (filter_map secret_in events) at.secrets ∙ sym (secrets_of-rotate first events secret))
+    (subst (λ (table : TableValue). Holds (table_settings_of settings) table (accepted_log settings first events)) (sym same_table) at.table)
 
 -- the memberships by the log are within the limits, as each relay's table is
 pub IsWithin-events : (relay : Relay) (settings : Settings) (first : Secret) (events : List Event) → RelayAt relay settings first events

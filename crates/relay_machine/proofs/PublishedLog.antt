@@ -1,93 +1,12 @@
 -- What steps hand out is the published log.
-use Rattle.std.{proofs.{Common.{◌≡◌, ◌≤◌, ◌<◌, ◌⊎◌, ℕ, max, not, Bool, true, false, List, [], ◌∷◌, ◌++◌, reverse, take, drop, Option, Some, None, Result, Ok, Err, refl, sym, ap, subst, ◌∙◌, arith, inl, inr, le_refl, ⊎_elim, if◌then◌else◌}, lemmas.List.{reverse-append, reverse-reverse}}, specs.List.{filter_map}}
-use Rattle.amt_values.specs.{Endpoint.{endpoint_of}, EndpointValue.{EndpointValue}}
-use Rattle.amt_messages.specs.{declared.{message.Message.{Message, TheVariants.{Discovery, Advertisement, Request, Query, Update, Multicast, Teardown}}, refusal.Refused.{Refused}}, Refusal.{message_of}}
-use Rattle.response_mac.specs.{declared.{secret.Secret.{Secret}, secrets.Secrets.{Secrets}}, ResponseMac.{is_good}}
-use Rattle.inner_datagrams.specs.declared.head.Head.{Head}
-use Rattle.source_filter.specs.declared.record.Record.{Record}
-use Rattle.endpoint_membership.specs.{Limits.{IsWithin}, Log.{brought, latest}, Membership.{Membership}, Memberships.{is_live, memberships_at}, Published.{AnswerAlike, ClearingsLetNoTimePass, IsPublishedPart, clears_nothing, published_of, with_published}}
-use Rattle.endpoint_membership.{specs.{Table.{TableSettings, limit_passed, memberships_now}, declared.{change.Change.{Change, TheVariants.{Mark, Clear, Reported}}, limits.LimitFault.{LimitFault}}}, proofs.{HoldsAfter.{latest-push}, PublishedLog.{AnswerAlike-published, IsPublishedPart-prefix, published-next, published-none}}}
-use Rattle.relay_machine.specs.declared.{event.Event.{Event, TheVariants.{Moment, Datagram, Packet, Rotate}}, outcome.{Outcome.{Outcome}, Unlawful.{Unlawful}}, settings.Settings.{Settings}}
-use Rattle.relay_machine.specs.{Accepted.{accepted_back, accepted_log, change_of, entry_after, entry_of, handed_out, with_change}, EventAnswer.{datagram_answer, event_answer, limited_answer, message_answer, packet_answer, teardown_answer, update_answer}}
-use Rattle.relay_machine.{specs.{Events.{now_of, secrets_of}, Packets.{head_to_copy, targets_at}, Published.{published_log}, Settings.{AreLawfulSettings, membership_interval_ms, table_settings_of}, Updates.{forwardable_records, report_in}}, proofs.{Limits.{always_within}, Numbers.{AreLawful-settings}, Onward.{accepted-push, now_of-moment, now_of-other}}}
-
--- an entry, if there is one, is made at this moment
-abbrev IsMadeAt : ℕ → Option Change → Type 0
-IsMadeAt moment None = Unit {0}
-IsMadeAt moment (Some change) = brought change ≡ moment
-
-limited-made : (passed : Option LimitFault) (moment : ℕ) (source : EndpointValue) (records : List Record) → IsMadeAt moment (limited_answer passed (Reported source records moment)).entry
-limited-made None moment source records = refl
-limited-made (Some fault) moment source records = tt
-
-update-made : (good : Bool) (reading : Result (List Record) Unlawful) (passed : List Record → Option LimitFault) (source : EndpointValue) (moment : ℕ)
-    → IsMadeAt moment (update_answer good reading passed source moment).entry
-update-made false reading passed source moment = tt
-update-made true (Err fault) passed source moment = tt
-update-made true (Ok records) passed source moment = limited-made (passed (forwardable_records records)) moment source (forwardable_records records)
-
-teardown-made : (good live : Bool) (named : EndpointValue) (moment : ℕ) → IsMadeAt moment (teardown_answer good live named moment).entry
-teardown-made false live named moment = tt
-teardown-made true true named moment = refl
-teardown-made true false named moment = refl
-
-message-made : (settings : Settings) (secrets : Secrets) (moment : ℕ) (log : List Change) (source : EndpointValue) (message : Message)
-    → IsMadeAt moment (message_answer settings secrets moment log source message).entry
-message-made settings secrets moment log source (Discovery nonce) = tt
-message-made settings secrets moment log source (Advertisement nonce relay) = tt
-message-made settings secrets moment log source (Request v6 nonce) = tt
-message-made settings secrets moment log source (Query limited mac nonce inner seen) = tt
-message-made settings secrets moment log source (Update mac nonce inner) =
-    update-made (is_good secrets source nonce mac) (report_in inner) (λ (records : List Record). limit_passed (table_settings_of settings) log source records moment) source moment
-message-made settings secrets moment log source (Multicast packet) = tt
-message-made settings secrets moment log source (Teardown mac nonce named) =
-    teardown-made (is_good secrets named nonce mac) (is_live named (memberships_now (table_settings_of settings) log)) named moment
-
-datagram-made : (settings : Settings) (secrets : Secrets) (moment : ℕ) (log : List Change) (source : Option EndpointValue) (reading : Result Message Refused)
-    → IsMadeAt moment (datagram_answer settings secrets moment log source reading).entry
-datagram-made settings secrets moment log None reading = tt
-datagram-made settings secrets moment log (Some source) (Err refusal) = tt
-datagram-made settings secrets moment log (Some source) (Ok message) = message-made settings secrets moment log source message
-
-packet-made : (moment : ℕ) (targets : Head → List EndpointValue) (packet : List ℕ) (reading : Result Head Outcome) → IsMadeAt moment (packet_answer targets packet reading).entry
-packet-made moment targets packet (Ok head) = tt
-packet-made moment targets packet (Err outcome) = tt
-
-latest-with : (log : List Change) (entry : Option Change) (moment : ℕ) → latest log ≡ moment → IsMadeAt moment entry → latest (with_change log entry) ≡ moment
-latest-with log None moment same made = same
-latest-with log (Some change) moment same made = let pushed = latest-push log change in omega (arith, pushed, same, made)
-
--- the latest moment of the accepted log is that of the events
-latest_back : (settings : Settings) (first : Secret) (back : List Event) → latest (accepted_back settings first back) ≡ now_of (reverse back)
-unfolding accepted_back now_of
-latest_back settings first [] = refl
-latest_back settings first (Moment moment ∷ earlier) =
-    let log = accepted_back settings first earlier in
-    let events = reverse earlier in
-    let before = latest_back settings first earlier in
-    let pushed = latest-push log (Mark (max (now_of events) moment)) in
-    let now = ap now_of (reverse-append (Moment moment ∷ []) earlier) ∙ now_of-moment events moment in
-    omega (arith, pushed, before, now)
-latest_back settings first (Rotate secret ∷ earlier) =
-    latest_back settings first earlier
-    ∙ sym (ap now_of (reverse-append (Rotate secret ∷ []) earlier) ∙ now_of-other (reverse earlier) (Rotate secret) refl)
-latest_back settings first (Packet bytes ∷ earlier) =
-    let log = accepted_back settings first earlier in
-    let now = now_of (reverse earlier) in
-    latest-with log (packet_answer (targets_at (table_settings_of settings) log now) bytes (head_to_copy settings.packet_limit bytes)).entry now (latest_back settings first earlier)
-    (packet-made now (targets_at (table_settings_of settings) log now) bytes (head_to_copy settings.packet_limit bytes))
-    ∙ sym (ap now_of (reverse-append (Packet bytes ∷ []) earlier) ∙ now_of-other (reverse earlier) (Packet bytes) refl)
-latest_back settings first (Datagram bytes from ∷ earlier) =
-    let log = accepted_back settings first earlier in
-    let now = now_of (reverse earlier) in
-    let secrets = secrets_of first (reverse earlier) in
-    latest-with log (datagram_answer settings secrets now log (endpoint_of from) (message_of bytes)).entry now (latest_back settings first earlier)
-    (datagram-made settings secrets now log (endpoint_of from) (message_of bytes))
-    ∙ sym (ap now_of (reverse-append (Datagram bytes from ∷ []) earlier) ∙ now_of-other (reverse earlier) (Datagram bytes from) refl)
-
--- the newest entry is of the moment of the events
-pub latest-accepted_log : (settings : Settings) (first : Secret) (events : List Event) → latest (accepted_log settings first events) ≡ now_of events
-latest-accepted_log settings first events = latest_back settings first (reverse events) ∙ ap now_of (reverse-reverse events)
+use Rattle.std.proofs.Common.{◌≡◌, ◌<◌, ◌⊎◌, ℕ, max, not, Bool, true, false, List, [], ◌∷◌, ◌++◌, reverse, take, drop, Option, Some, None, refl, sym, ap, subst, ◌∙◌, arith, inl, inr, le_refl, ⊎_elim, if◌then◌else◌}
+use Rattle.amt_values.specs.EndpointValue.{EndpointValue}
+use Rattle.response_mac.specs.declared.{secret.Secret.{Secret}, secrets.Secrets.{Secrets}}
+use Rattle.endpoint_membership.specs.{Limits.{IsWithin}, Log.{brought, latest}, Memberships.{is_live, memberships_at}, Published.{AnswerAlike, ClearingsLetNoTimePass, IsPublishedPart, published_of, with_published}}
+use Rattle.endpoint_membership.{specs.{Table.{TableSettings, memberships_now}, declared.change.Change.{Change, TheVariants.{Mark, Clear, Reported}}}, proofs.PublishedLog.{AnswerAlike-published, IsPublishedPart-prefix, published-next, published-none}}
+use Rattle.relay_machine.specs.{declared.{event.Event.{Event, TheVariants.{Moment}}, settings.Settings.{Settings}}, Accepted.{accepted_back, accepted_log, change_of, entry_after, entry_of, handed_out, with_change}, EventAnswer.{event_answer}}
+use Rattle.relay_machine.{specs.{Events.{now_of, secrets_of}, Published.{published_log}, Settings.{AreLawfulSettings, membership_interval_ms, table_settings_of}}, proofs.{Judged.{IsMadeAt, latest_back, unmoved-made}, Limits.{always_within}, Numbers.{AreLawful-settings}, Onward.{accepted-push}}}
+pub use Rattle.relay_machine.proofs.Judged.{latest-accepted_log}
 
 -- a clearing is made at the moment of the events before it
 abbrev ClearsAt : ℕ → Option Change → Type 0
@@ -109,13 +28,7 @@ event-clears settings secrets moment log (Moment reported) = λ endpoint at is. 
   where
     no_clearing : {endpoint : EndpointValue} {at : ℕ} → Some (Mark (max moment reported)) ≡ Some (Clear endpoint at) → ⊥
     no_clearing same = cc
-event-clears settings secrets moment log (Rotate secret) = made-clears moment None tt
-event-clears settings secrets moment log (Packet bytes) =
-    made-clears moment (packet_answer (targets_at (table_settings_of settings) log moment) bytes (head_to_copy settings.packet_limit bytes)).entry
-    (packet-made moment (targets_at (table_settings_of settings) log moment) bytes (head_to_copy settings.packet_limit bytes))
-event-clears settings secrets moment log (Datagram bytes from) =
-    made-clears moment (datagram_answer settings secrets moment log (endpoint_of from) (message_of bytes)).entry
-    (datagram-made settings secrets moment log (endpoint_of from) (message_of bytes))
+event-clears settings secrets moment log event = made-clears moment (event_answer settings secrets moment log event).entry (unmoved-made settings secrets moment log event refl)
 
 -- where a log with one more entry is cut: at that entry, or before it
 abbrev IsCutBefore : List Change → List Change → Change → Type 0

@@ -1,6 +1,6 @@
 use Rattle.std.proofs.{Common.{ℕ, ap, ◌∙◌}, lemmas.Result.{IfOk-weaker}}
 use Rattle.endpoint_membership.specs.Memberships.{rows_of}
-use Rattle.relay_machine.{specs.{Accepted.{accepted_log}, Answers.{settings_of}, Settings.{membership_interval_ms, table_settings_of}}, proofs.Onward.{AreFew-settings, latest-accepted}}
+use Rattle.relay_machine.{specs.{Accepted.{accepted_log}, Answers.{settings_of}, Settings.{membership_interval_ms, table_settings_of}}, proofs.{Judged.{latest-accepted_log}, Onward.{AreFew-settings}}}
 use Rattle.relay_machine.proofs.relay.Relay.rows.Goals as goal
 
 pub returns-clause-stands : goal.returns-clause-stands
@@ -8,7 +8,7 @@ returns-clause-stands c = IfOk-weaker c.rows.result _ _
     (λ rows shown settings first events at.
     let log = accepted_log settings first events in
     shown (table_settings_of settings) log at.table
-    ∙ ap (λ (moment : ℕ). rows_of (membership_interval_ms settings) moment log) (latest-accepted _ settings first events at)) c.rows.ensures.stands
+    ∙ ap (λ (moment : ℕ). rows_of (membership_interval_ms settings) moment log) (latest-accepted_log settings first events)) c.rows.ensures.stands
 
 pub returns-clause-published : goal.returns-clause-published
 returns-clause-published c = IfOk-weaker c.rows.result _ _
