@@ -1,16 +1,9 @@
-mod ArrayLaws
 mod Exactness
-mod FirstFaults
+mod Faults
 mod GatewayLaws
-mod GatewayParts
-mod ItemParts
+mod Items
 mod JoinLaws
-mod JoinParts
-mod KeyFaults
 pub mod OpenedJoins
-mod ReadTexts
 mod RelayLaws
-mod RelayParts
 mod Scanning
-mod SharedLaws
-mod TableFaults
+mod Values

@@ -1,14 +1,14 @@
 -- The settings file of a gateway.
-use Rattle.std.specs.{Prelude.{◌≡◌, ℕ, List, [], ◌∷◌, codes, Option, Some, None, if◌then◌else◌}, Option.{option_and_then}, Str.{bytes_eq}}
-use Rattle.amt_values.specs.{declared.peer.Peer.{Peer}, Text.{IsPeerText}}
+use Rattle.std.specs.{Prelude.{ℕ, List, [], ◌∷◌, codes, Option, Some, None, if◌then◌else◌}, Option.{option_and_then}, Str.{bytes_eq}}
+use Rattle.amt_values.specs.{Text.{IsPeerText}}
 use Rattle.group_records.specs.declared.family.Family.{Family, TheVariants.{V4, V6}}
 use Rattle.relay_machine.specs.declared.number_key.NumberRange.{NumberRange}
 use Rattle.script_lines.specs.{Form.{IsAddressText, IsFamilyText, a_family, a_peer, an_address_of}, Texts.{family_text}}
 use Rattle.socket_merge.specs.FullReport.{family_by}
 use Rattle.gateway_script.specs.declared.kind.Key.TheVariants as words
 use Rattle.gateway_script.specs.{Row.{key_word}, Settling.{port_in}}
-use Rattle.toml.specs.Data.{Members, as_str, get_member}
-use Rattle.amt_config.specs.{declared.{config.{GatewayConfig.{GatewayConfig}, Join.{Join}}, fault.ConfigFault.{ConfigFault}}, Join.{AreJoins, FailsInJoins}, Key.{HasWholeNumber, HasTables, HasText, Key, a_text, a_whole, optional, required, some_tables}, Table.{AreKnown, IsFirstFaultOfFile, IsFile, IsFirstFault, key_words}}
+use Rattle.toml.specs.Data.{Members, as_str}
+use Rattle.amt_config.specs.{declared.{config.{GatewayConfig.{GatewayConfig}, Join.{Join}}, fault.ConfigFault.{ConfigFault}}, Join.{AreJoins, FailsInJoins}, Key.{HasOptional, HasWholeNumber, HasTables, HasText, Key, a_text, a_whole, optional, read_at, required, some_tables}, Table.{AreKnown, IsFirstFaultOfFile, IsFile, IsFirstFault, key_words}}
 
 -- AMT's own port is the default (RFC 7450, section 7.2)
 abbrev pub port_range : NumberRange
@@ -36,12 +36,7 @@ family_of_text text =
 
 -- the family that the table gives
 abbrev pub table_family : Members → Option Family
-table_family table = option_and_then family_of_text (option_and_then as_str (get_member (key_word words.Family) table))
-
--- the peer of the key, if the key is there
-abbrev pub HasPeer : List ℕ → Members → Option Peer → Type 0
-HasPeer word table None = get_member word table ≡ None
-HasPeer word table (Some peer) = HasText word table (IsPeerText peer)
+table_family table = option_and_then family_of_text (read_at as_str (key_word words.Family) table)
 
 -- the joins are those of the key's tables
 pub record HasJoins (family : Option Family) (table : Members) (joins : List Join) : Type 0 where
@@ -57,7 +52,7 @@ pub record HasGatewayValues (table : Members) (config : GatewayConfig) : Type 0 
   pub control : HasText (codes "control") table (IsPeerText config.control)
   pub discovery : HasText (key_word words.Discovery) table (IsPeerText config.discovery)
   pub source : HasText (key_word words.Source) table (IsAddressText (Some (family_by config.v6)) config.source)
-  pub relay : HasPeer (key_word words.Relay) table config.relay
+  pub relay : HasOptional (key_word words.Relay) table IsPeerText config.relay
   pub port : HasWholeNumber (key_word words.Port) port_range table config.port
   pub joins : HasJoins (Some (family_by config.v6)) table config.joins
 

@@ -6,8 +6,8 @@ use Rattle.script_lines.specs.Form.{IsGroupText, IsModeText, IsNameText, a_group
 use Rattle.socket_merge.specs.{History.{AcceptedCall, Open, SocketCall, with_call}, Refusal.{refusal_of}}
 use Rattle.source_filter.specs.Filter.{ascending_sources}
 use Rattle.gateway_script.specs.Says.{AreAddressTexts}
-use Rattle.toml.specs.Data.{Members, get_member}
-use Rattle.amt_config.specs.{declared.{config.Join.{Join}, fault.ConfigFault.{ConfigFault}}, Arrays.{array_of_texts}, Key.{HasText, Key, a_text, required, some_texts}, Table.{AreKnown, IsFirstFault, key_words}}
+use Rattle.toml.specs.Data.{Members}
+use Rattle.amt_config.specs.{declared.{config.Join.{Join}, fault.ConfigFault.{ConfigFault}}, Arrays.{as_texts}, Key.{HasText, Key, a_text, read_at, required, some_texts}, Table.{AreKnown, IsFirstFault, key_words}}
 use Rattle.amt_config.specs.declared.fault.ConfigFault.TheVariants as faults
 
 -- the keys of a join, for a gateway of the family
@@ -19,12 +19,16 @@ join_keys family =
     ∷ required (codes "sources") (some_texts (an_address_of family))
     ∷ []
 
+-- the sources of a join, as they are listed
+pub record AreListed (family : Option Family) (table : Members) (listed : List Ip) : Type 0 where
+  pub texts : List (List ℕ)
+  pub there : read_at as_texts (codes "sources") table ≡ Some texts
+  pub addresses : AreAddressTexts family listed texts
+
 -- the sources of a join are these addresses, which stand in any order and with repeats
 pub record HasSources (family : Option Family) (table : Members) (sources : List Ip) : Type 0 where
-  pub texts : List (List ℕ)
-  pub there : get_member (codes "sources") table ≡ Some (array_of_texts texts)
   pub listed : List Ip
-  pub addresses : AreAddressTexts family listed texts
+  pub are : AreListed family table listed
   pub ascend : sources ≡ ascending_sources listed
 
 -- the table is this join

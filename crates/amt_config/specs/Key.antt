@@ -1,11 +1,10 @@
 -- The keys of a settings file: what each wants of its value, and why a value is refused.
-use Rattle.std.specs.{Prelude.{◌≡◌, ◌⊎◌, ℕ, Bool, true, false, List, [], ◌∷◌, ℤ, pos, Option, Some, None}, Int.{IsInRange}, List.{AllByRecursion}}
-use Rattle.amt_values.specs.Conditions.{First}
+use Rattle.std.specs.{Prelude.{◌≡◌, ◌⊎◌, ℕ, Bool, true, false, List, [], ℤ, pos, Option, Some, None}, Int.{IsInRange}, Option.{option_and_then}}
 use Rattle.relay_machine.specs.declared.number_key.NumberRange.{NumberRange}
-use Rattle.script_lines.specs.{declared.reason.Reason.{Reason}, Form.{Fails as FailsAsForm, Form}, Shape.{SomeFails}}
+use Rattle.script_lines.specs.{declared.reason.Reason.{Reason}, Form.{Fails as FailsAsForm, Form, a_family, a_group, a_mode, a_name, a_peer}, Shape.{SomeFails}}
 use Rattle.script_lines.specs.declared.reason.Reason.TheVariants as reasons
-use Rattle.toml.specs.Data.{Data, Members, as_integer, as_str, get_member, integer, string}
-use Rattle.amt_config.specs.{Arrays.{array_of_tables, array_of_texts}, declared.fault.KeyFault.{KeyFault, TheVariants.{Missing, Kind, Address, Range}}}
+use Rattle.toml.specs.Data.{Data, Members, as_integer, as_str, get_member}
+use Rattle.amt_config.specs.{Arrays.{as_tables, as_texts}, declared.fault.KeyFault.{KeyFault, TheVariants.{Missing, Kind, Address, Range}}}
 
 -- what a key wants: a text of a form, a whole number of a range, an array of texts, or one of tables
 pub data Want : Type 0 where
@@ -26,97 +25,85 @@ required word want = record { word = word; is_required = true; want = want }
 abbrev pub optional : List ℕ → Want → Key
 optional word want = record { word = word; is_required = false; want = want }
 
--- what a text is refused as, by the reason for which it is no text of its form: an address, a peer or a
--- group that is none, or a word that isn't one of those allowed
-abbrev pub fault_of : Reason → Option KeyFault
-fault_of reasons.Address = Some Address
-fault_of reasons.Peer = Some Address
-fault_of reasons.Group = Some Address
-fault_of reasons.Name = Some Range
-fault_of reasons.Mode = Some Range
-fault_of reasons.Word = Some Range
-fault_of reason = None
+abbrev pub text_key : List ℕ → Bool → Form → Key
+text_key word must form = record { word = word; is_required = must; want = a_text form }
 
--- a text that isn't of the form
-pub record IsUnfitText (form : Form) (value : Data) (fault : KeyFault) : Type 0 where
-  pub text : List ℕ
-  pub is : value ≡ string text
-  pub reason : Reason
-  pub fails : FailsAsForm form text reason
-  pub told : fault_of reason ≡ Some fault
+-- the reason for which a text isn't of a form that keys want
+abbrev pub reason_of : Form → Reason
+reason_of a_peer = reasons.Peer
+reason_of a_name = reasons.Name
+reason_of a_mode = reasons.Mode
+reason_of (a_group family) = reasons.Group
+reason_of a_family = reasons.Word
+reason_of form = reasons.Address
 
--- texts of which one isn't of the form
-pub record IsUnfitAmong (form : Form) (value : Data) (fault : KeyFault) : Type 0 where
-  pub texts : List (List ℕ)
-  pub is : value ≡ array_of_texts texts
-  pub reason : Reason
-  pub fails : SomeFails [] (Some form) texts reason
-  pub told : fault_of reason ≡ Some fault
+-- what such a text is told as: no address, peer or group, or a word that isn't one of those allowed
+abbrev pub fault_of : Reason → KeyFault
+fault_of reasons.Name = Range
+fault_of reasons.Mode = Range
+fault_of reasons.Word = Range
+fault_of reason = Address
+
+-- the text isn't of the form
+abbrev pub IsUnfit : Form → List ℕ → Type 0
+IsUnfit form text = FailsAsForm form text (reason_of form)
+
+-- of texts one isn't of the form
+abbrev pub IsSomeUnfit : Form → List (List ℕ) → Type 0
+IsSomeUnfit form texts = SomeFails [] (Some form) texts (reason_of form)
 
 -- a whole number outside the range
-pub record IsOutside (range : NumberRange) (value : Data) : Type 0 where
-  pub number : ℤ
-  pub is : value ≡ integer number
-  pub outside : (inside : ℕ) → IsInRange range.least range.most inside → number ≡ pos inside → ⊥
+abbrev pub IsOutside : NumberRange → ℤ → Type 0
+IsOutside range number = (inside : ℕ) → IsInRange range.least range.most inside → number ≡ pos inside → ⊥
+
+-- a value of another type, or of the type and not fit, which is told as this
+abbrev pub RefusesAs : {X : Type 0} → Option X → (X → Type 0) → KeyFault → KeyFault → Type 0
+RefusesAs None Unfit cause fault = fault ≡ Kind
+RefusesAs (Some one) Unfit cause fault = Unfit one × (fault ≡ cause)
 
 -- a value that a key of this want doesn't take, and why
 abbrev pub Refuses : Want → Data → KeyFault → Type 0
-Refuses (a_text form) value Kind = as_str value ≡ None
-Refuses (a_text form) value fault = IsUnfitText form value fault
-Refuses (a_whole range) value Kind = as_integer value ≡ None
-Refuses (a_whole range) value Range = IsOutside range value
-Refuses (a_whole range) value fault = ⊥
-Refuses (some_texts form) value Kind = (texts : List (List ℕ)) → value ≡ array_of_texts texts → ⊥
-Refuses (some_texts form) value fault = IsUnfitAmong form value fault
-Refuses some_tables value Kind = (tables : List Members) → value ≡ array_of_tables tables → ⊥
-Refuses some_tables value fault = ⊥
+Refuses (a_text form) value = RefusesAs (as_str value) (IsUnfit form) (fault_of (reason_of form))
+Refuses (a_whole range) value = RefusesAs (as_integer value) (IsOutside range) Range
+Refuses (some_texts form) value = RefusesAs (as_texts value) (IsSomeUnfit form) (fault_of (reason_of form))
+Refuses some_tables value = RefusesAs (as_tables value) (λ tables. ⊥) Range
 
--- the table lacks the key, or has a value for it that is refused
+-- the table lacks a key that must be there, or has a value for it that is refused
+abbrev pub FailsBy : Key → Option Data → KeyFault → Type 0
+FailsBy key None fault = (key.is_required ≡ true) × (fault ≡ Missing)
+FailsBy key (Some value) fault = Refuses key.want value fault
+
 abbrev pub Fails : Key → Members → KeyFault → Type 0
-Fails key table Missing = (key.is_required ≡ true) × (get_member key.word table ≡ None)
-Fails key table fault = (value : Data) × (get_member key.word table ≡ Some value) × Refuses key.want value fault
-
--- the order in which the faults of a key are tried
-abbrev pub fault_order : List KeyFault
-fault_order = Missing ∷ Kind ∷ Address ∷ Range ∷ []
-
--- this is the key's first fault
-abbrev pub FailsFirst : Key → Members → KeyFault → Type 0
-FailsFirst key table fault = First (Fails key table) fault_order fault
-
--- the key is of this word, and this is its first fault
-abbrev pub FailsAt : Key → Members → List ℕ → KeyFault → Type 0
-FailsAt key table word fault = FailsFirst key table fault × (word ≡ key.word)
+Fails key table fault = FailsBy key (get_member key.word table) fault
 
 -- the key has no fault
-abbrev pub HasNoFault : Members → Key → Type 0
-HasNoFault table key = (fault : KeyFault) → Fails key table fault → ⊥
+pub record IsRight (table : Members) (key : Key) : Type 0 where
+  pub none : (fault : KeyFault) → Fails key table fault → ⊥
 
--- none of the keys has one
-abbrev pub HaveNoFault : Members → List Key → Type 0
-HaveNoFault table keys = AllByRecursion (HasNoFault table) keys
-
--- of these keys, the first that has a fault is of this word, and this is its first fault
-abbrev pub FailsFirstAt : Members → List Key → List ℕ → KeyFault → Type 0
-FailsFirstAt table [] word fault = ⊥
-FailsFirstAt table (key ∷ rest) word fault =
-    FailsAt key table word fault ⊎ (HasNoFault table key × FailsFirstAt table rest word fault)
+-- what this reads of the key's value
+abbrev pub read_at : {X : Type 0} → (Data → Option X) → List ℕ → Members → Option X
+read_at read word table = option_and_then read (get_member word table)
 
 -- the value of the key is a text, of which this holds
 abbrev pub HasText : List ℕ → Members → (List ℕ → Type 0) → Type 0
-HasText word table Names = (text : List ℕ) × (get_member word table ≡ Some (string text)) × Names text
+HasText word table Names = (text : List ℕ) × (read_at as_str word table ≡ Some text) × Names text
 
 -- the same where the key is there, and else this
 abbrev pub HasTextOr : List ℕ → Members → (List ℕ → Type 0) → Type 0 → Type 0
 HasTextOr word table Names Default = ((get_member word table ≡ None) × Default) ⊎ HasText word table Names
 
+-- the value of the key names this, if the key is there
+abbrev pub HasOptional : {V : Type 0} → List ℕ → Members → (V → List ℕ → Type 0) → Option V → Type 0
+HasOptional word table Names None = get_member word table ≡ None
+HasOptional word table Names (Some value) = HasText word table (Names value)
+
 -- the value of the key is the number, which is in the range; the default where the key isn't there
 abbrev pub HasWholeNumber : List ℕ → NumberRange → Members → ℕ → Type 0
 HasWholeNumber word range table number =
     ((get_member word table ≡ None) × (number ≡ range.default))
-    ⊎ ((get_member word table ≡ Some (integer (pos number))) × IsInRange range.least range.most number)
+    ⊎ ((read_at as_integer word table ≡ Some (pos number)) × IsInRange range.least range.most number)
 
 -- the tables of the key; none where the key isn't there
 abbrev pub HasTables : List ℕ → Members → List Members → Type 0
 HasTables word table tables =
-    ((get_member word table ≡ None) × (tables ≡ [])) ⊎ (get_member word table ≡ Some (array_of_tables tables))
+    ((get_member word table ≡ None) × (tables ≡ [])) ⊎ (read_at as_tables word table ≡ Some tables)

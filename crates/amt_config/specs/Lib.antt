@@ -3,9 +3,7 @@ pub mod FileKey
 pub mod Gateway
 pub mod Join
 pub mod Key
-pub mod Parts
 pub mod Reading
 pub mod Relay
-pub mod Scanned
 pub mod Table
 pub mod Words

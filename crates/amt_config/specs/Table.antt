@@ -1,7 +1,7 @@
 -- The table of a settings file, and its first fault.
-use Rattle.std.specs.{Prelude.{◌≡◌, ◌≢◌, ◌⊎◌, ℕ, Bool, true, List, map, IsSome, Some, IsUtf8}, Cmp.Lexicographic.{slice_cmp}, List.{list_any}, Ordering.{nat_cmp}, Str.{bytes_eq}, declared.cmp.Ordering.TheVariants.{Less}}
+use Rattle.std.specs.{Prelude.{◌≡◌, ◌≢◌, ◌⊎◌, ℕ, Bool, true, List, [], ◌∷◌, map, IsSome, Some, IsUtf8}, Cmp.Lexicographic.{slice_cmp}, List.{list_any}, Ordering.{nat_cmp}, Str.{bytes_eq}, declared.cmp.Ordering.TheVariants.{Less}}
 use Rattle.toml.specs.{Data.{Members, get_member}, Parse.{parse_document}}
-use Rattle.amt_config.specs.{declared.fault.{ConfigFault.{ConfigFault}, KeyFault.{KeyFault, TheVariants.{Missing, Kind, Address, Range}}}, Key.{HaveNoFault, FailsFirstAt, Key}}
+use Rattle.amt_config.specs.{declared.fault.{ConfigFault.{ConfigFault}, KeyFault.{KeyFault, TheVariants.{Missing, Kind, Address, Range}}}, Key.{Fails, IsRight, Key}}
 use Rattle.amt_config.specs.declared.fault.ConfigFault.TheVariants as faults
 
 -- the octets are text, which TOML reads as the table
@@ -30,6 +30,12 @@ pub record IsLeastUnknown (words : List (List ℕ)) (table : Members) (word : Li
   pub unknown : IsUnknownKey words table word
   pub least : (other : List ℕ) → IsUnknownKey words table other → slice_cmp nat_cmp other word ≢ Less
 
+-- the fault of the least unknown key
+pub record IsUnknownFault (words : List (List ℕ)) (table : Members) (fault : ConfigFault) : Type 0 where
+  pub word : List ℕ
+  pub least : IsLeastUnknown words table word
+  pub is : fault ≡ faults.Unknown word
+
 -- a fault of a key, as it is told
 abbrev pub told : List ℕ → KeyFault → ConfigFault
 told word Missing = faults.Missing word
@@ -37,22 +43,19 @@ told word Kind = faults.Kind word
 told word Address = faults.Address word
 told word Range = faults.Range word
 
--- the fault of the first key that has one
-pub record IsKeyFault (table : Members) (keys : List Key) (fault : ConfigFault) : Type 0 where
-  pub word : List ℕ
-  pub cause : KeyFault
-  pub first : FailsFirstAt table keys word cause
-  pub is : fault ≡ told word cause
+-- the fault of a key
+abbrev pub IsFaultOf : Members → Key → ConfigFault → Type 0
+IsFaultOf table key fault = (cause : KeyFault) × Fails key table cause × (fault ≡ told key.word cause)
 
--- the fault of the least unknown key
-pub record IsUnknownFault (words : List (List ℕ)) (table : Members) (fault : ConfigFault) : Type 0 where
-  pub word : List ℕ
-  pub least : IsLeastUnknown words table word
-  pub is : fault ≡ faults.Unknown word
+-- one of these keys is bad, and those before it are right; or all are right, and this holds
+abbrev pub FirstOf : (Key → Type 0) → (Key → Type 0) → List Key → Type 0 → Type 0
+FirstOf Bad Right [] Else = Else
+FirstOf Bad Right (key ∷ rest) Else = Bad key ⊎ (Right key × FirstOf Bad Right rest Else)
 
 -- the fault of the first key that has one, or where none has, this one of all values together
 abbrev pub IsValueFault : List Key → (Members → ConfigFault → Type 0) → Members → ConfigFault → Type 0
-IsValueFault keys Together table fault = IsKeyFault table keys fault ⊎ (HaveNoFault table keys × Together table fault)
+IsValueFault keys Together table fault =
+    FirstOf (λ key. IsFaultOf table key fault) (IsRight table) keys (Together table fault)
 
 -- The first fault of a table of these keys: an unknown key, then the keys in their order, each with its
 -- faults in theirs, and then what may be wrong with all values together.

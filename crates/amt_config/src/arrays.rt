@@ -1,16 +1,18 @@
 //! Keys whose values are arrays. It knows no key.
 
-ghost use Rattle.std.specs.Prelude.{◌≡◌, ℕ, List, IfOk, IfErr, IfSome, IfNone, Some};
+ghost use Rattle.std.specs.Prelude.{◌≡◌, IfOk, IfErr, OnOk, Some, option_map};
 ghost use Rattle.script_lines.specs.Form.{Form};
-ghost use Rattle.toml.specs.{Data.{Members, get_member}, View.{items_view, table_view, view}};
-ghost use Rattle.amt_config.specs.{Arrays.{array_of_tables, array_of_texts}, Scanned.{are_tables, are_texts, tables_in, texts_in}, FileKey.{word_of}, Key.{FailsAt, HasTables, optional, required, some_tables, some_texts}};
+ghost use Rattle.toml.specs.{Data.{as_str, as_table}, View.{items_view, table_view, view}};
+ghost use Rattle.amt_config.specs.{Arrays.{all_are, as_tables, as_texts, those_in}, FileKey.{word_of}, Key.{HasTables, IsRight, optional, read_at, required, some_tables, some_texts}, Reading.{MayFail}};
 
-use crate::fault::{BadKey, KeyFault};
+use crate::fault::{ConfigFault, KeyFault, told};
 use crate::key::FileKey;
+use crate::table::value_at;
+use std::alloc::Global;
 use toml::{Table, Value};
 
 fn are_texts(items: &[Value]) -> bool
-    ensures { result ≡ are_texts (items_view items.now) }
+    ensures { result ≡ all_are as_str (items_view items.now) }
 {
     for item in items {
         if item.as_str().is_none() {
@@ -21,7 +23,7 @@ fn are_texts(items: &[Value]) -> bool
 }
 
 fn are_tables(items: &[Value]) -> bool
-    ensures { result ≡ are_tables (items_view items.now) }
+    ensures { result ≡ all_are as_table (items_view items.now) }
 {
     for item in items {
         if item.as_table().is_none() {
@@ -33,8 +35,7 @@ fn are_tables(items: &[Value]) -> bool
 
 // The items of a value that is an array of texts.
 fn texts_of(value: &Value) -> Option<&[Value]>
-    ensures found { IfSome result (λ items. view value.now ≡ array_of_texts (texts_in (items_view items.now))) }
-    ensures none { IfNone result ((texts : List (List ℕ)) → view value.now ≡ array_of_texts texts → ⊥) }
+    ensures { option_map (λ items. those_in as_str (items_view items.now)) result ≡ as_texts (view value.now) }
 {
     let items = match value.as_array() {
         Some(items) => items.as_slice(),
@@ -45,8 +46,7 @@ fn texts_of(value: &Value) -> Option<&[Value]>
 
 // The items of a value that is an array of tables.
 fn tables_of(value: &Value) -> Option<&[Value]>
-    ensures found { IfSome result (λ items. view value.now ≡ array_of_tables (tables_in (items_view items.now))) }
-    ensures none { IfNone result ((tables : List Members) → view value.now ≡ array_of_tables tables → ⊥) }
+    ensures { option_map (λ items. those_in as_table (items_view items.now)) result ≡ as_tables (view value.now) }
 {
     let items = match value.as_array() {
         Some(items) => items.as_slice(),
@@ -56,45 +56,33 @@ fn tables_of(value: &Value) -> Option<&[Value]>
 }
 
 /// The texts of a key that must be there.
-pub fn texts_at(table: &Table, key: FileKey) -> Result<&[Value], BadKey>
+pub fn texts_at(alloc: Global, table: &Table, key: FileKey) -> Result<&[Value], ConfigFault>
     ensures found { IfOk result (λ items.
-        get_member (word_of key) (table_view table.now) ≡ Some (array_of_texts (texts_in (items_view items.now)))) }
-    ensures fault { (form : Form) → IfErr result
-        (λ bad. FailsAt (required (word_of key) (some_texts form)) (table_view table.now) (word_of bad.key) bad.fault) }
+        read_at as_texts (word_of key) (table_view table.now) ≡ Some (those_in as_str (items_view items.now))) }
+    ensures fault { (form : Form) → IfErr result (MayFail (table_view table.now) (required (word_of key) (some_texts form))) }
 {
-    let value = match table.get(key.word()) {
+    let value = match value_at(table, key) {
         Some(value) => value,
-        None => {
-            return Err(BadKey {
-                key,
-                fault: KeyFault::Missing,
-            });
-        }
+        None => return Err(told(alloc, key, KeyFault::Missing)),
     };
     match texts_of(value) {
         Some(items) => Ok(items),
-        None => Err(BadKey {
-            key,
-            fault: KeyFault::Kind,
-        }),
+        None => Err(told(alloc, key, KeyFault::Kind)),
     }
 }
 
 /// The tables of a key; none where the key isn't there.
-pub fn tables_at(table: &Table, key: FileKey) -> Result<&[Value], BadKey>
-    ensures found { IfOk result (λ items. HasTables (word_of key) (table_view table.now) (tables_in (items_view items.now))) }
-    ensures fault { IfErr result
-        (λ bad. FailsAt (optional (word_of key) some_tables) (table_view table.now) (word_of bad.key) bad.fault) }
+pub fn tables_at(alloc: Global, table: &Table, key: FileKey) -> Result<&[Value], ConfigFault>
+    ensures found { IfOk result (λ items. HasTables (word_of key) (table_view table.now) (those_in as_table (items_view items.now))) }
+    ensures right { OnOk result (IsRight (table_view table.now) (optional (word_of key) some_tables)) }
+    ensures fault { IfErr result (MayFail (table_view table.now) (optional (word_of key) some_tables)) }
 {
-    let value = match table.get(key.word()) {
+    let value = match value_at(table, key) {
         Some(value) => value,
         None => return Ok(&[]),
     };
     match tables_of(value) {
         Some(items) => Ok(items),
-        None => Err(BadKey {
-            key,
-            fault: KeyFault::Kind,
-        }),
+        None => Err(told(alloc, key, KeyFault::Kind)),
     }
 }

@@ -1,7 +1,7 @@
 //! Why a settings file isn't read. It knows no key but `join`.
 
 ghost use Rattle.std.specs.Prelude.{◌≡◌, ◌⊎◌};
-ghost use Rattle.amt_config.specs.{FileKey.{word_of}, Reading.{told_in_join}, Table.{told}};
+ghost use Rattle.amt_config.specs.{FileKey.{word_of}, Join.{in_join}, Table.{told}};
 
 use crate::key::FileKey;
 use amt_values::Bytes;
@@ -50,21 +50,14 @@ pub enum KeyFault {
     Range,
 }
 
-/// A key, and why its value isn't taken.
-#[derive(Clone, Copy, Debug)]
-pub struct BadKey {
-    pub key: FileKey,
-    pub fault: KeyFault,
-}
-
 /// The fault, with its key.
-pub fn told(alloc: Global, bad: BadKey) -> ConfigFault
-    ensures { (result ≡ told (word_of bad.key) bad.fault) ⊎ (result ≡ ConfigFault.Memory) }
+pub fn told(alloc: Global, key: FileKey, fault: KeyFault) -> ConfigFault
+    ensures { (result ≡ told (word_of key) fault) ⊎ (result ≡ ConfigFault.Memory) }
 {
-    let Ok(key) = Bytes::copied(alloc, bad.key.word().as_bytes()) else {
+    let Ok(key) = Bytes::copied(alloc, key.word().as_bytes()) else {
         return ConfigFault::Memory;
     };
-    match bad.fault {
+    match fault {
         KeyFault::Missing => ConfigFault::Missing(key),
         KeyFault::Kind => ConfigFault::Kind(key),
         KeyFault::Address => ConfigFault::Address(key),
@@ -72,42 +65,19 @@ pub fn told(alloc: Global, bad: BadKey) -> ConfigFault
     }
 }
 
-/// Why a join isn't taken.
-#[derive(Clone, Copy, Debug, PartialEq, Eq)]
-pub enum JoinFault {
-    /// A key that no join has.
-    Unknown,
-    Bad(KeyFault),
-    Memory,
-}
-
-impl From<BadKey> for JoinFault {
-    ghost use Rattle.std.specs.Prelude.{◌≡◌};
-    ghost use Rattle.amt_config.specs.declared.fault.JoinFault.{JoinFault as Fault};
-
-    ghost from_gives = { λ bad fault. fault ≡ Fault.Bad bad.fault };
-
-    fn from(bad: BadKey) -> JoinFault {
-        JoinFault::Bad(bad.fault)
-    }
-}
-
-/// The fault, with the key under which all joins stand.
-pub fn told_in_join(alloc: Global, fault: JoinFault) -> ConfigFault
-    ensures { (result ≡ told_in_join fault) ⊎ (result ≡ ConfigFault.Memory) }
+/// The fault of a join, with the key under which all joins stand.
+pub fn in_join(alloc: Global, fault: ConfigFault) -> ConfigFault
+    ensures { (result ≡ in_join fault) ⊎ (result ≡ ConfigFault.Memory) }
 {
+    let Ok(key) = Bytes::copied(alloc, FileKey::Join.word().as_bytes()) else {
+        return ConfigFault::Memory;
+    };
     match fault {
-        JoinFault::Memory => ConfigFault::Memory,
-        JoinFault::Bad(fault) => told(
-            alloc,
-            BadKey {
-                key: FileKey::Join,
-                fault,
-            },
-        ),
-        JoinFault::Unknown => match Bytes::copied(alloc, FileKey::Join.word().as_bytes()) {
-            Ok(key) => ConfigFault::Unknown(key),
-            Err(_) => ConfigFault::Memory,
-        },
+        ConfigFault::Unknown(_) => ConfigFault::Unknown(key),
+        ConfigFault::Missing(_) => ConfigFault::Missing(key),
+        ConfigFault::Kind(_) => ConfigFault::Kind(key),
+        ConfigFault::Address(_) => ConfigFault::Address(key),
+        ConfigFault::Range(_) => ConfigFault::Range(key),
+        fault => fault,
     }
 }

@@ -1,18 +1,21 @@
 //! The settings file of a gateway.
 
-ghost use Rattle.std.specs.Prelude.{◌≡◌, ◌⊎◌, IfOk, IfErr, Ok, Err};
+ghost use Rattle.std.specs.Prelude.{◌≡◌, ◌⊎◌, drop, IfOk, IfErr, Ok, Err, Some};
+ghost use Rattle.script_lines.specs.Form.{IsFamilyText};
+ghost use Rattle.gateway_script.specs.Settling.{is_v6};
 ghost use Rattle.toml.specs.View.{table_view};
-ghost use Rattle.amt_config.specs.{declared.{config.GatewayConfig.{GatewayConfig as Config}, fault.ConfigFault.{ConfigFault as Fault}}, FileKey.{word_of}, Gateway.{HasGatewayValues, IsFaultInJoins, IsGatewayFault, IsGatewayFile, table_family, gateway_keys}, Key.{FailsFirstAt}, Reading.{HasAllButJoins, config_of, keys_but_joins}, Table.{IsValueFault}};
+ghost use Rattle.amt_config.specs.{declared.{config.GatewayConfig.{GatewayConfig as Config}, fault.ConfigFault.{ConfigFault as Fault}}, FileKey.{word_of}, Gateway.{HasGatewayValues, IsFaultInJoins, IsGatewayFault, IsGatewayFile, gateway_keys, table_family}, Key.{HasText}, Reading.{MayFailFirst}, Table.{IsValueFault}};
 
 use crate::arrays::tables_at;
-use crate::config::{GatewayConfig, Joins};
-use crate::fault::{BadKey, ConfigFault, told, told_in_join};
+use crate::config::GatewayConfig;
+use crate::fault::ConfigFault;
+use crate::forms::{AddressOf, FamilyWord, Place};
 use crate::joins::read_joins;
 use crate::key::FileKey;
 use crate::numbers::number_at;
 use crate::table::{TableKind, check_keys, read_table};
-use crate::texts::{address_of, family_at, peer_at, peer_or_none};
-use amt_values::{AMT_PORT, Ip, Peer};
+use crate::texts::{optional, required};
+use amt_values::AMT_PORT;
 use group_records::Family;
 use relay_machine::NumberRange;
 use std::alloc::Global;
@@ -24,34 +27,37 @@ const PORT: NumberRange = NumberRange {
     default: AMT_PORT as u32,
 };
 
-// The values of all keys but that of the joins.
-#[derive(Clone, Copy, Debug)]
-struct AllButJoins {
-    family: Family,
-    listen: Peer,
-    deliver: Peer,
-    control: Peer,
-    discovery: Peer,
-    source: Ip,
-    relay: Option<Peer>,
-    port: u16,
+fn is_v6(family: Family) -> bool
+    ensures { result ≡ is_v6 family }
+{
+    family == Family::V6
 }
 
-fn read_all_but_joins(table: &Table) -> Result<AllButJoins, BadKey>
-    ensures found { IfOk result (HasAllButJoins (table_view table.now)) }
-    ensures fault { IfErr result (λ bad.
-        FailsFirstAt (table_view table.now) (keys_but_joins (table_family (table_view table.now))) (word_of bad.key) bad.fault) }
+// The values of all keys, by that of the first.
+fn read_of_family(
+    alloc: Global,
+    table: &Table,
+    family: Family,
+) -> Result<GatewayConfig, ConfigFault>
+    requires { HasText (word_of FileKey.Family) (table_view table.now) (IsFamilyText family) }
+    ensures found { IfOk result (HasGatewayValues (table_view table.now)) }
+    ensures fault { IfErr result (λ fault. MayFailFirst (drop 1 (gateway_keys (Some family))) (table_view table.now)
+        (IsFaultInJoins (table_view table.now) fault) fault) }
 {
-    let family = family_at(table, FileKey::Family)?;
-    let listen = peer_at(table, FileKey::Listen)?;
-    let deliver = peer_at(table, FileKey::Deliver)?;
-    let control = peer_at(table, FileKey::Control)?;
-    let discovery = peer_at(table, FileKey::Discovery)?;
-    let source = address_of(table, FileKey::Source, family)?;
-    let relay = peer_or_none(table, FileKey::Relay)?;
-    let port = number_at(table, FileKey::Port, PORT)?;
-    Ok(AllButJoins {
-        family,
+    let listen = required(alloc, table, FileKey::Listen, &Place)?;
+    let deliver = required(alloc, table, FileKey::Deliver, &Place)?;
+    let control = required(alloc, table, FileKey::Control, &Place)?;
+    let discovery = required(alloc, table, FileKey::Discovery, &Place)?;
+    let source = required(alloc, table, FileKey::Source, &AddressOf(family))?;
+    let relay = optional(alloc, table, FileKey::Relay, &Place)?;
+    let port = number_at(alloc, table, FileKey::Port, PORT)?;
+    let items = tables_at(alloc, table, FileKey::Join)?;
+    let joins = match read_joins(alloc, family, items) {
+        Ok(joins) => joins,
+        Err(fault) => return Err(fault),
+    };
+    Ok(GatewayConfig {
+        v6: is_v6(family),
         listen,
         deliver,
         control,
@@ -59,23 +65,8 @@ fn read_all_but_joins(table: &Table) -> Result<AllButJoins, BadKey>
         source,
         relay,
         port: port as u16,
-    })
-}
-
-fn config_of(given: &AllButJoins, joins: Joins) -> GatewayConfig
-    ensures { result ≡ config_of given.now joins }
-{
-    GatewayConfig {
-        v6: given.family == Family::V6,
-        listen: given.listen,
-        deliver: given.deliver,
-        control: given.control,
-        discovery: given.discovery,
-        source: given.source,
-        relay: given.relay,
-        port: given.port,
         joins,
-    }
+    })
 }
 
 // The values of all keys.
@@ -84,17 +75,13 @@ fn read_values(alloc: Global, table: &Table) -> Result<GatewayConfig, ConfigFaul
     ensures fault { IfErr result (λ fault. IsValueFault (gateway_keys (table_family (table_view table.now))) IsFaultInJoins (table_view table.now) fault
         ⊎ (fault ≡ ConfigFault.Memory)) }
 {
-    let given = match read_all_but_joins(table) {
-        Ok(given) => given,
-        Err(bad) => return Err(told(alloc, bad)),
+    let family = match required(alloc, table, FileKey::Family, &FamilyWord) {
+        Ok(family) => family,
+        Err(fault) => return Err(fault),
     };
-    let items = match tables_at(table, FileKey::Join) {
-        Ok(items) => items,
-        Err(bad) => return Err(told(alloc, bad)),
-    };
-    match read_joins(alloc, given.family, items) {
-        Ok(joins) => Ok(config_of(&given, joins)),
-        Err(fault) => Err(told_in_join(alloc, fault)),
+    match read_of_family(alloc, table, family) {
+        Ok(config) => Ok(config),
+        Err(fault) => Err(fault),
     }
 }
 

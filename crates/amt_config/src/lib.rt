@@ -9,6 +9,7 @@
 mod arrays;
 mod config;
 mod fault;
+mod forms;
 mod gateway;
 mod join;
 mod joins;

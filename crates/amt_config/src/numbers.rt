@@ -1,46 +1,45 @@
 //! Keys whose values are whole numbers. It knows no key.
 
-ghost use Rattle.std.specs.{Prelude.{◌≡◌, IfOk, IfErr, IfSome, IfNone, pos}, Int.{IsInRange}};
-ghost use Rattle.toml.specs.{Data.{integer}, View.{table_view}};
-ghost use Rattle.amt_config.specs.{FileKey.{word_of}, Key.{FailsAt, HasWholeNumber, IsOutside, a_whole, optional}};
+ghost use Rattle.std.specs.{Prelude.{◌≡◌, IfOk, IfErr, IfSome, IfNone, OnOk, pos}, Int.{IsInRange}};
+ghost use Rattle.toml.specs.View.{table_view};
+ghost use Rattle.amt_config.specs.{FileKey.{word_of}, Key.{HasWholeNumber, IsOutside, IsRight, a_whole, optional}, Reading.{MayFail}};
 
-use crate::fault::{BadKey, KeyFault};
+use crate::fault::{ConfigFault, KeyFault, told};
 use crate::key::FileKey;
+use crate::table::value_at;
 use relay_machine::NumberRange;
+use std::alloc::Global;
 use toml::Table;
 
 /// The number of a key, which is in the range, or its default where the key isn't there.
-pub fn number_at(table: &Table, key: FileKey, range: NumberRange) -> Result<u32, BadKey>
+pub fn number_at(
+    alloc: Global,
+    table: &Table,
+    key: FileKey,
+    range: NumberRange,
+) -> Result<u32, ConfigFault>
     ensures found { IfOk result (λ number. HasWholeNumber (word_of key) range (table_view table.now) number) }
-    ensures fault { IfErr result
-        (λ bad. FailsAt (optional (word_of key) (a_whole range)) (table_view table.now) (word_of bad.key) bad.fault) }
+    ensures right { OnOk result (IsRight (table_view table.now) (optional (word_of key) (a_whole range))) }
+    ensures fault { IfErr result (MayFail (table_view table.now) (optional (word_of key) (a_whole range))) }
 {
-    let value = match table.get(key.word()) {
+    let value = match value_at(table, key) {
         Some(value) => value,
         None => return Ok(range.default),
     };
     let number = match value.as_integer() {
         Some(number) => number,
-        None => {
-            return Err(BadKey {
-                key,
-                fault: KeyFault::Kind,
-            });
-        }
+        None => return Err(told(alloc, key, KeyFault::Kind)),
     };
     match in_range(number, range) {
         Some(number) => Ok(number),
-        None => Err(BadKey {
-            key,
-            fault: KeyFault::Range,
-        }),
+        None => Err(told(alloc, key, KeyFault::Range)),
     }
 }
 
 // The number where it is in the range.
 fn in_range(number: i64, range: NumberRange) -> Option<u32>
     ensures found { IfSome result (λ inside. (number ≡ pos inside) × IsInRange range.least range.most inside) }
-    ensures none { IfNone result (IsOutside range (integer number)) }
+    ensures none { IfNone result (IsOutside range number) }
 {
     if number < i64::from(range.least) {
         return None;

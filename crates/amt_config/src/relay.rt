@@ -1,21 +1,19 @@
 //! The settings file of a relay.
 
-ghost use Rattle.std.specs.Prelude.{◌≡◌, ◌≤◌, ◌<◌, ◌*◌, ◌⊎◌, [], ◌∷◌, IfOk, IfErr, IfNone, IfSome, IsTrue, IsFalse, Ok, Err};
+ghost use Rattle.std.specs.Prelude.{◌≡◌, ◌≤◌, ◌<◌, ◌*◌, ◌⊎◌, [], ◌∷◌, IfOk, IfErr, IfNone, IfSome, IsTrue, IsFalse, OnOk, Ok, Err};
 ghost use Rattle.amt_values.specs.Conditions.{First};
 ghost use Rattle.relay_machine.specs.{declared.number_key.NumberKey.{NumberKey as AnyNumber, TheVariants.{Endpoints, QuerySeconds, ResponseTenths}}, Settings.{AreLawfulSettings, IsInKeyRange, number_at as number_in}};
 ghost use Rattle.amt_script.specs.Row.{number_word};
 ghost use Rattle.toml.specs.View.{table_view};
-ghost use Rattle.amt_config.specs.{declared.{config.RelayConfig.{RelayConfig as Config}, fault.ConfigFault.{ConfigFault as Fault}}, FileKey.{word_of}, Key.{FailsAt, FailsFirstAt, HasWholeNumber}};
-ghost use Rattle.amt_config.specs.{Parts.{HasLimits, HasPlaces, HasSettings, IsMadeOf, limit_keys, place_keys, setting_keys}, Relay.{FailsTogether, HasValues, IsFaultTogether, IsRelayFault, IsRelayFile, number_key, range_of, relay_keys, settings_of, together_order}, Table.{IsValueFault, told}};
+ghost use Rattle.amt_config.specs.{declared.{config.RelayConfig.{RelayConfig as Config}, fault.ConfigFault.{ConfigFault as Fault}}, Key.{HasWholeNumber, IsRight}, Reading.{IsMadeOf, MayFail, MayFailFirst}, Relay.{FailsTogether, HasValues, IsFaultTogether, IsRelayFault, IsRelayFile, number_key, range_of, relay_keys, settings_of, together_order}, Table.{IsValueFault}};
 
 use crate::config::RelayConfig;
-use crate::fault::{BadKey, ConfigFault, KeyFault, told};
+use crate::fault::{ConfigFault, KeyFault, told};
+use crate::forms::{Address, Address4, Address6, Place};
 use crate::key::FileKey;
 use crate::numbers::number_at;
 use crate::table::{TableKind, check_keys, read_table};
-use crate::texts::{address_at, address4_or, address6_or, peer_at};
-use amt_values::{Ip, Peer};
-use endpoint_membership::Limits;
+use crate::texts::{required, value_or};
 use relay_machine::{NumberKey, NumberRange, SOURCE_LIMIT, Settings, has_code};
 use std::alloc::Global;
 use toml::Table;
@@ -32,83 +30,38 @@ const WORKERS: NumberRange = NumberRange {
     default: 4,
 };
 
-// What a file must say.
-#[derive(Clone, Copy, Debug)]
-struct Places {
-    relay: Ip,
-    listen: Peer,
-    feed: Peer,
-}
-
-fn read_places(table: &Table) -> Result<Places, BadKey>
-    ensures found { IfOk result (HasPlaces (table_view table.now)) }
-    ensures fault { IfErr result (λ bad. FailsFirstAt (table_view table.now) place_keys (word_of bad.key) bad.fault) }
-{
-    Ok(Places {
-        relay: address_at(table, FileKey::Relay)?,
-        listen: peer_at(table, FileKey::Listen)?,
-        feed: peer_at(table, FileKey::Feed)?,
-    })
-}
-
-fn number_of(table: &Table, key: NumberKey) -> Result<u32, BadKey>
+fn number_of(alloc: Global, table: &Table, key: NumberKey) -> Result<u32, ConfigFault>
     ensures found { IfOk result (HasWholeNumber (number_word key) (range_of key) (table_view table.now)) }
-    ensures fault { IfErr result (λ bad. FailsAt (number_key key) (table_view table.now) (word_of bad.key) bad.fault) }
+    ensures right { OnOk result (IsRight (table_view table.now) (number_key key)) }
+    ensures fault { IfErr result (MayFail (table_view table.now) (number_key key)) }
 {
-    number_at(table, FileKey::Number(key), key.range())
-}
-
-fn read_limits(table: &Table) -> Result<Limits, BadKey>
-    ensures found { IfOk result (HasLimits (table_view table.now)) }
-    ensures fault { IfErr result (λ bad. FailsFirstAt (table_view table.now) limit_keys (word_of bad.key) bad.fault) }
-{
-    Ok(Limits {
-        endpoints: number_of(table, NumberKey::Endpoints)?,
-        groups: number_of(table, NumberKey::Groups)?,
-        sources: number_of(table, NumberKey::Sources)?,
-    })
-}
-
-// What the relay with this address is set up with.
-fn read_settings(table: &Table, relay: Ip) -> Result<Settings, BadKey>
-    ensures found { IfOk result (HasSettings (table_view table.now) relay) }
-    ensures fault { IfErr result (λ bad. FailsFirstAt (table_view table.now) setting_keys (word_of bad.key) bad.fault) }
-{
-    let defaults = Settings::of_relay(relay);
-    Ok(Settings {
-        relay,
-        query4: address4_or(table, FileKey::Query4, defaults.query4)?,
-        query6: address6_or(table, FileKey::Query6, defaults.query6)?,
-        robustness: number_of(table, NumberKey::Robustness)? as u8,
-        query_seconds: number_of(table, NumberKey::QuerySeconds)?,
-        response_tenths: number_of(table, NumberKey::ResponseTenths)?,
-        limits: read_limits(table)?,
-        packet_limit: number_of(table, NumberKey::PacketLimit)?,
-    })
+    number_at(alloc, table, FileKey::Number(key), key.range())
 }
 
 // The values of all keys, each of which is one that its key wants.
-fn read_values(table: &Table) -> Result<RelayConfig, BadKey>
+fn read_values(alloc: Global, table: &Table) -> Result<RelayConfig, ConfigFault>
     ensures found { IfOk result (HasValues (table_view table.now)) }
-    ensures fault { IfErr result (λ bad. FailsFirstAt (table_view table.now) relay_keys (word_of bad.key) bad.fault) }
+    ensures fault { IfErr result (MayFailFirst relay_keys (table_view table.now) ⊥) }
 {
-    let places = read_places(table)?;
-    let settings = read_settings(table, places.relay)?;
+    let relay = required(alloc, table, FileKey::Relay, &Address)?;
+    let listen = required(alloc, table, FileKey::Listen, &Place)?;
+    let feed = required(alloc, table, FileKey::Feed, &Place)?;
+    let defaults = Settings::of_relay(relay);
     Ok(RelayConfig {
-        relay: places.relay,
-        listen: places.listen,
-        feed: places.feed,
-        query4: settings.query4,
-        query6: settings.query6,
-        robustness: settings.robustness,
-        query_seconds: settings.query_seconds,
-        response_tenths: settings.response_tenths,
-        endpoints: settings.limits.endpoints,
-        groups: settings.limits.groups,
-        sources: settings.limits.sources,
-        packet_limit: settings.packet_limit,
-        rotate_seconds: number_at(table, FileKey::RotateSeconds, ROTATE_SECONDS)?,
-        workers: number_at(table, FileKey::Workers, WORKERS)?,
+        relay,
+        listen,
+        feed,
+        query4: value_or(alloc, table, FileKey::Query4, &Address4, defaults.query4)?,
+        query6: value_or(alloc, table, FileKey::Query6, &Address6, defaults.query6)?,
+        robustness: number_of(alloc, table, NumberKey::Robustness)? as u8,
+        query_seconds: number_of(alloc, table, NumberKey::QuerySeconds)?,
+        response_tenths: number_of(alloc, table, NumberKey::ResponseTenths)?,
+        endpoints: number_of(alloc, table, NumberKey::Endpoints)?,
+        groups: number_of(alloc, table, NumberKey::Groups)?,
+        sources: number_of(alloc, table, NumberKey::Sources)?,
+        packet_limit: number_of(alloc, table, NumberKey::PacketLimit)?,
+        rotate_seconds: number_at(alloc, table, FileKey::RotateSeconds, ROTATE_SECONDS)?,
+        workers: number_at(alloc, table, FileKey::Workers, WORKERS)?,
     })
 }
 
@@ -141,20 +94,18 @@ fn fault_together(config: &RelayConfig) -> Option<NumberKey>
     None
 }
 
-fn read_config(table: &Table) -> Result<RelayConfig, BadKey>
+fn read_config(alloc: Global, table: &Table) -> Result<RelayConfig, ConfigFault>
     ensures found { IfOk result (IsMadeOf (table_view table.now)) }
-    ensures fault { IfErr result (λ bad. IsValueFault relay_keys IsFaultTogether (table_view table.now) (told (word_of bad.key) bad.fault)) }
+    ensures fault { IfErr result (λ fault. IsValueFault relay_keys IsFaultTogether (table_view table.now) fault
+        ⊎ (fault ≡ ConfigFault.Memory)) }
 {
-    let config = match read_values(table) {
+    let config = match read_values(alloc, table) {
         Ok(config) => config,
-        Err(bad) => return Err(bad),
+        Err(fault) => return Err(fault),
     };
     match fault_together(&config) {
         None => Ok(config),
-        Some(key) => Err(BadKey {
-            key: FileKey::Number(key),
-            fault: KeyFault::Range,
-        }),
+        Some(key) => Err(told(alloc, FileKey::Number(key), KeyFault::Range)),
     }
 }
 
@@ -171,9 +122,9 @@ fn read_file(alloc: Global, bytes: &[u8]) -> Result<RelayConfig, ConfigFault>
         Ok(()) => {}
         Err(fault) => return Err(fault),
     }
-    match read_config(&table) {
+    match read_config(alloc, &table) {
         Ok(config) => Ok(config),
-        Err(bad) => Err(told(alloc, bad)),
+        Err(fault) => Err(fault),
     }
 }
 

@@ -1,13 +1,14 @@
-//! The table of a settings file, and its unknown keys. It knows no value.
+//! The table of a settings file, its unknown keys, and what it has under a key.
 
-ghost use Rattle.std.specs.Prelude.{◌≡◌, ◌⊎◌, IfOk, IfErr, IfSome, IfNone, OnOk};
-ghost use Rattle.toml.specs.View.{table_view};
-ghost use Rattle.amt_config.specs.{Table.{AreKnown, HasNoTable, IsLeastUnknown, IsTableOf, IsUnknownFault, is_among}, Words.{words_in}};
+ghost use Rattle.std.specs.Prelude.{◌≡◌, ◌⊎◌, IfOk, IfErr, IfSome, IfNone, OnOk, option_map};
+ghost use Rattle.toml.specs.{Data.{get_member}, View.{table_view, view}};
+ghost use Rattle.amt_config.specs.{FileKey.{word_of}, Table.{AreKnown, HasNoTable, IsLeastUnknown, IsTableOf, IsUnknownFault, is_among}, Words.{words_in}};
 
 use crate::fault::ConfigFault;
+use crate::key::FileKey;
 use amt_values::Bytes;
 use std::alloc::Global;
-use toml::Table;
+use toml::{Table, Value};
 
 /// The tables of settings files.
 #[derive(Clone, Copy, Debug, PartialEq, Eq)]
@@ -82,8 +83,15 @@ pub fn read_table(alloc: Global, bytes: &[u8]) -> Result<Table, ConfigFault>
     }
 }
 
-/// The table's least key that is none of this kind: its keys ascend.
-pub fn least_unknown<'a>(table: &'a Table, kind: TableKind) -> Option<&'a str>
+/// The value of a key, if the key is there.
+pub fn value_at(table: &Table, key: FileKey) -> Option<&Value>
+    ensures { option_map (λ value. view value.now) result ≡ get_member (word_of key) (table_view table.now) }
+{
+    table.get(key.word())
+}
+
+// The table's least key that is none of this kind: its keys ascend.
+fn least_unknown<'a>(table: &'a Table, kind: TableKind) -> Option<&'a str>
     ensures found { IfSome result (λ key. IsLeastUnknown (words_in kind) (table_view table.now) key.now) }
     ensures none { IfNone result (AreKnown (words_in kind) (table_view table.now)) }
 {

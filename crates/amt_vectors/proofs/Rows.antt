@@ -1,37 +1,20 @@
 -- A line is of one kind.
-use Rattle.std.proofs.Common.{◌≡◌, ℕ, ◌+◌, ◌*◌, ◌==◌, List, [], ◌∷◌, get_or, if◌then◌else◌, refl, sym, ap, ◌∙◌}
-use Rattle.amt_vectors.specs.{declared.kind.RowKind.{RowKind}, Row.{word_of}}
-use Rattle.amt_vectors.specs.declared.kind.RowKind.TheVariants as kinds
+use Rattle.std.proofs.Common.{◌≡◌, ℕ, List, [], ◌∷◌, ◌++◌, Some, refl}
+use Rattle.script_lines.proofs.WordTables.{first_kind, one_kind}
+use Rattle.amt_vectors.specs.{declared.kind.RowKind.{RowKind, TheVariants.{Hmac, Sum, Decode, Code4, Code6, Ip}}, Row.{word_of}}
 
--- a number that tells the first words apart: by the first octet and the fifth one
-abbrev mark : List ℕ → ℕ
-mark word = 100 * get_or word 0 0 + get_or word 4 0
+abbrev words_of : RowKind → List (List ℕ)
+words_of kind = word_of kind ∷ []
 
-abbrev marked : List ℕ → RowKind
-marked word =
-    if mark word == 10400 then kinds.Hmac
-    else (if mark word == 11500 then kinds.Sum
-    else (if mark word == 10100 then kinds.Decode
-    else (if mark word == 9952 then kinds.Code4 else (if mark word == 9954 then kinds.Code6 else kinds.Ip))))
+abbrev all_kinds : List RowKind
+all_kinds = Hmac ∷ Sum ∷ Decode ∷ Code4 ∷ Code6 ∷ Ip ∷ []
 
-kind_marked : (kind : RowKind) → marked (word_of kind) ≡ kind
-kind_marked kinds.Hmac = refl
-kind_marked kinds.Sum = refl
-kind_marked kinds.Decode = refl
-kind_marked kinds.Code4 = refl
-kind_marked kinds.Code6 = refl
-kind_marked kinds.Ip = refl
+first : (kind : RowKind) (values : List (List ℕ)) → first_kind words_of all_kinds (words_of kind ++ values) ≡ Some kind
+first Hmac values = refl
+first kind values = refl
 
-abbrev first_marked : List (List ℕ) → RowKind
-first_marked [] = kinds.Ip
-first_marked (word ∷ values) = marked word
+pub same_kind : (one other : RowKind) (values others : List (List ℕ)) → word_of one ∷ values ≡ word_of other ∷ others → one ≡ other
+same_kind = one_kind words_of all_kinds first
 
-abbrev after_first : List (List ℕ) → List (List ℕ)
-after_first [] = []
-after_first (word ∷ values) = values
-
-pub same_kind : (kind kind' : RowKind) (values values' : List (List ℕ)) → word_of kind ∷ values ≡ word_of kind' ∷ values' → kind ≡ kind'
-same_kind kind kind' values values' same = sym (kind_marked kind) ∙ (ap first_marked same ∙ kind_marked kind')
-
-pub same_values : (word word' : List ℕ) (values values' : List (List ℕ)) → word ∷ values ≡ word' ∷ values' → values ≡ values'
-same_values word word' values values' same = ap after_first same
+pub same_values : (one other : List ℕ) (values others : List (List ℕ)) → one ∷ values ≡ other ∷ others → values ≡ others
+same_values one other values others same = cc

@@ -13,5 +13,6 @@ pub mod Runs
 pub mod Splitting
 pub mod Taking
 pub mod Verdicts
+pub mod WordTables
 pub mod Words
 pub mod Writes

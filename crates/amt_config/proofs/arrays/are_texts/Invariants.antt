@@ -1,7 +1,7 @@
 use Rattle.std.proofs.Common.{◌≡◌, drop}
-use Rattle.toml.specs.View.{items_view}
-use Rattle.amt_config.specs.Scanned.{are_texts}
+use Rattle.toml.specs.{Data.{as_str}, View.{items_view}}
+use Rattle.amt_config.specs.Arrays.{all_are}
 use Rattle.amt_config.proofs.arrays.are_texts.Given as goal
 
 abbrev pub invariant-loop-item : goal.invariant-loop-item
-invariant-loop-item l = are_texts (items_view (drop l.item-index l.items)) ≡ are_texts (items_view l.items)
+invariant-loop-item l = all_are as_str (items_view (drop l.item-index l.items)) ≡ all_are as_str (items_view l.items)

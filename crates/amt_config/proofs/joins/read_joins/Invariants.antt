@@ -1,7 +1,7 @@
 use Rattle.std.proofs.Common.{Some}
-use Rattle.toml.specs.View.{items_view}
-use Rattle.amt_config.{specs.{Scanned.{tables_in}, Reading.{AreOpened}}, proofs.ItemParts.{tables_from}}
+use Rattle.toml.specs.{Data.{as_table}, View.{items_view}}
+use Rattle.amt_config.{specs.Arrays.{those_in}, proofs.{Items.{those_from}, OpenedJoins.{AreOpened}}}
 use Rattle.amt_config.proofs.joins.read_joins.Given as goal
 
 abbrev pub invariant-loop-item : goal.invariant-loop-item
-invariant-loop-item l = AreOpened (Some l.fn.family) (tables_in (items_view l.items)) l.joins (tables_from l.item-index l.items) l.sockets
+invariant-loop-item l = AreOpened (Some l.fn.family) (those_in as_table (items_view l.items)) l.joins (those_from as_table l.item-index l.items) l.sockets

@@ -1,10 +1,11 @@
-use Rattle.std.proofs.Common.{inr, refl}
 use Rattle.toml.specs.View.{table_view}
-use Rattle.amt_config.proofs.RelayLaws.{right_keys}
+use Rattle.amt_config.{specs.Relay.{IsFaultTogether, relay_keys}, proofs.{Faults.{no_else, settled}, RelayLaws.{together_or}}}
 use Rattle.amt_config.proofs.relay.read_config.Goals as goal
 
+pub returns-in-Err-clause-fault : goal.returns-in-Err-clause-fault
+returns-in-Err-clause-fault c =
+    settled (table_view c.args.table.now) c.in-Err.fault relay_keys _ (IsFaultTogether (table_view c.args.table.now) c.in-Err.fault) no_else c.in-Err.ensures.fault
+
 pub returns-in-Some-clause-fault : goal.returns-in-Some-clause-fault
-returns-in-Some-clause-fault c = inr (
-  right_keys (table_view c.args.table.now) c.in-Ok.config c.in-Ok.ensures.found,
-  record { config = c.in-Ok.config; values = c.in-Ok.ensures.found; key = c.in-Some.key; first = c.in-Some.ensures.found; is = refl },
-)
+returns-in-Some-clause-fault c =
+    together_or (table_view c.args.table.now) c.in-Ok.config c.in-Some.key c.told.result c.in-Ok.ensures.found c.in-Some.ensures.found c.told.ensures

@@ -1,34 +1,82 @@
-use Rattle.std.proofs.{Common.{codes, inl, inr}, lemmas.Result.{err_from_is_err_and}}
+use Rattle.std.proofs.{Common.{◌≡◌, inl, subst}, lemmas.Result.{err_from_is_err_and}}
+use Rattle.amt_values.specs.{declared.address.Ip.TheVariants.{V4, V6}, Text.{IsIpText}}
+use Rattle.relay_machine.specs.declared.{number_key.NumberKey.TheVariants.{Robustness, QuerySeconds, ResponseTenths, Endpoints, Groups, Sources, PacketLimit}, settings.Settings.{Settings}}
+use Rattle.amt_script.specs.declared.kind.Key.TheVariants as words
+use Rattle.amt_script.specs.Row.{key_word}
 use Rattle.toml.specs.View.{table_view}
-use Rattle.amt_config.{specs.{FileKey.{word_of}, Key.{FailsFirstAt}, Relay.{relay_keys, rotate_range}}, proofs.{KeyFaults.{right_number}, RelayParts.{after_places, after_settings}}}
+use Rattle.amt_config.{specs.{Key.{HasTextOr}, Reading.{MayFailFirst}, Relay.{relay_keys}}, proofs.Faults.{past}}
 use Rattle.amt_config.proofs.relay.read_values.Goals as goal
 
-pub returns-in_err-settings-clause-fault : goal.returns-in_err-settings-clause-fault
-returns-in_err-settings-clause-fault c =
-    let table = table_view c.args.table.now in
-    let bad = c.in_err-settings.field-0.0 in
-    let handed = err_from_is_err_and c.from_residual-in_err-settings.result c.from_residual-in_err-settings.ensures.1 in
-    let first : FailsFirstAt table relay_keys (word_of bad.key) bad.fault =
-    after_places table c.in_ok-places.places (word_of bad.key) bad.fault c.in_ok-places.ensures.found c.in_err-settings.ensures.fault in
+pub returns-in_err-number_of-5-clause-fault : goal.returns-in_err-number_of-5-clause-fault
+returns-in_err-number_of-5-clause-fault c =
+    let handed = err_from_is_err_and c.from_residual-in_err-number_of-5.result c.from_residual-in_err-number_of-5.ensures.1 in
+    let first : MayFailFirst relay_keys (table_view c.args.table.now) ⊥ c.in_err-number_of-5.field-0.0 =
+    past c.in_ok-relay.ensures.right (past c.in_ok-listen.ensures.right (past c.in_ok-feed.ensures.right (past c.in_ok-value_or.ensures.right (past
+    c.in_ok-value_or-2.ensures.right (past c.in_ok-number_of.ensures.right (past c.in_ok-number_of-2.ensures.right (past c.in_ok-number_of-3.ensures.right
+    (past c.in_ok-number_of-4.ensures.right (inl c.in_err-number_of-5.ensures.fault))))))))) in
+    rw (handed.1, handed.2) first
+
+pub returns-in_err-number_of-6-clause-fault : goal.returns-in_err-number_of-6-clause-fault
+returns-in_err-number_of-6-clause-fault c =
+    let handed = err_from_is_err_and c.from_residual-in_err-number_of-6.result c.from_residual-in_err-number_of-6.ensures.1 in
+    let first : MayFailFirst relay_keys (table_view c.args.table.now) ⊥ c.in_err-number_of-6.field-0.0 =
+    past c.in_ok-relay.ensures.right (past c.in_ok-listen.ensures.right (past c.in_ok-feed.ensures.right (past c.in_ok-value_or.ensures.right (past
+    c.in_ok-value_or-2.ensures.right (past c.in_ok-number_of.ensures.right (past c.in_ok-number_of-2.ensures.right (past c.in_ok-number_of-3.ensures.right
+    (past c.in_ok-number_of-4.ensures.right (past c.in_ok-number_of-5.ensures.right (inl c.in_err-number_of-6.ensures.fault)))))))))) in
+    rw (handed.1, handed.2) first
+
+pub returns-in_err-number_of-7-clause-fault : goal.returns-in_err-number_of-7-clause-fault
+returns-in_err-number_of-7-clause-fault c =
+    let handed = err_from_is_err_and c.from_residual-in_err-number_of-7.result c.from_residual-in_err-number_of-7.ensures.1 in
+    let first : MayFailFirst relay_keys (table_view c.args.table.now) ⊥ c.in_err-number_of-7.field-0.0 =
+    past c.in_ok-relay.ensures.right (past c.in_ok-listen.ensures.right (past c.in_ok-feed.ensures.right (past c.in_ok-value_or.ensures.right (past
+    c.in_ok-value_or-2.ensures.right (past c.in_ok-number_of.ensures.right (past c.in_ok-number_of-2.ensures.right (past c.in_ok-number_of-3.ensures.right
+    (past c.in_ok-number_of-4.ensures.right (past c.in_ok-number_of-5.ensures.right (past c.in_ok-number_of-6.ensures.right (inl
+    c.in_err-number_of-7.ensures.fault))))))))))) in
     rw (handed.1, handed.2) first
 
 pub returns-in_err-number_at-clause-fault : goal.returns-in_err-number_at-clause-fault
 returns-in_err-number_at-clause-fault c =
-    let table = table_view c.args.table.now in
-    let bad = c.in_err-number_at.field-0.0 in
     let handed = err_from_is_err_and c.from_residual-in_err-number_at.result c.from_residual-in_err-number_at.ensures.1 in
-    let first : FailsFirstAt table relay_keys (word_of bad.key) bad.fault =
-    after_settings table c.in_ok-places.places c.in_ok-places.places.relay c.in_ok-settings.settings (word_of bad.key) bad.fault c.in_ok-places.ensures.found
-    c.in_ok-settings.ensures.found (inl c.in_err-number_at.ensures.fault) in
+    let first : MayFailFirst relay_keys (table_view c.args.table.now) ⊥ c.in_err-number_at.field-0.0 =
+    past c.in_ok-relay.ensures.right (past c.in_ok-listen.ensures.right (past c.in_ok-feed.ensures.right (past c.in_ok-value_or.ensures.right (past
+    c.in_ok-value_or-2.ensures.right (past c.in_ok-number_of.ensures.right (past c.in_ok-number_of-2.ensures.right (past c.in_ok-number_of-3.ensures.right
+    (past c.in_ok-number_of-4.ensures.right (past c.in_ok-number_of-5.ensures.right (past c.in_ok-number_of-6.ensures.right (past
+    c.in_ok-number_of-7.ensures.right (inl c.in_err-number_at.ensures.fault)))))))))))) in
     rw (handed.1, handed.2) first
 
 pub returns-in_err-number_at-2-clause-fault : goal.returns-in_err-number_at-2-clause-fault
 returns-in_err-number_at-2-clause-fault c =
-    let table = table_view c.args.table.now in
-    let bad = c.in_err-number_at-2.field-0.0 in
     let handed = err_from_is_err_and c.from_residual-in_err-number_at-2.result c.from_residual-in_err-number_at-2.ensures.1 in
-    let first : FailsFirstAt table relay_keys (word_of bad.key) bad.fault =
-    after_settings table c.in_ok-places.places c.in_ok-places.places.relay c.in_ok-settings.settings (word_of bad.key) bad.fault c.in_ok-places.ensures.found
-    c.in_ok-settings.ensures.found
-    (inr (right_number (codes "rotate_seconds") rotate_range table c.in_ok-number_at.field-0 c.in_ok-number_at.ensures.found, inl c.in_err-number_at-2.ensures.fault)) in
+    let first : MayFailFirst relay_keys (table_view c.args.table.now) ⊥ c.in_err-number_at-2.field-0.0 =
+    past c.in_ok-relay.ensures.right (past c.in_ok-listen.ensures.right (past c.in_ok-feed.ensures.right (past c.in_ok-value_or.ensures.right (past
+    c.in_ok-value_or-2.ensures.right (past c.in_ok-number_of.ensures.right (past c.in_ok-number_of-2.ensures.right (past c.in_ok-number_of-3.ensures.right
+    (past c.in_ok-number_of-4.ensures.right (past c.in_ok-number_of-5.ensures.right (past c.in_ok-number_of-6.ensures.right (past
+    c.in_ok-number_of-7.ensures.right (past c.in_ok-number_at.ensures.right (inl c.in_err-number_at-2.ensures.fault))))))))))))) in
     rw (handed.1, handed.2) first
+
+pub returns-clause-found : goal.returns-clause-found
+returns-clause-found c =
+    let table = table_view c.args.table.now in
+    let query4 = c.in_ok-value_or.field-0 in
+    let query6 = c.in_ok-value_or-2.field-0 in
+    record {
+      relay = c.in_ok-relay.ensures.found;
+      listen = c.in_ok-listen.ensures.found;
+      feed = c.in_ok-feed.ensures.found;
+      query4 = subst (λ (defaults : Settings). HasTextOr (key_word words.Query4) table (IsIpText (V4 query4)) (query4 ≡ defaults.query4))
+          c.of_relay-defaults.ensures.value c.in_ok-value_or.ensures.found;
+      query6 = subst (λ (defaults : Settings). HasTextOr (key_word words.Query6) table (IsIpText (V6 query6)) (query6 ≡ defaults.query6))
+          c.of_relay-defaults.ensures.value c.in_ok-value_or-2.ensures.found;
+      numbers = elim [
+        | Robustness ↦ c.in_ok-number_of.ensures.found
+        | QuerySeconds ↦ c.in_ok-number_of-2.ensures.found
+        | ResponseTenths ↦ c.in_ok-number_of-3.ensures.found
+        | Endpoints ↦ c.in_ok-number_of-4.ensures.found
+        | Groups ↦ c.in_ok-number_of-5.ensures.found
+        | Sources ↦ c.in_ok-number_of-6.ensures.found
+        | PacketLimit ↦ c.in_ok-number_of-7.ensures.found
+      ];
+      rotate = c.in_ok-number_at.ensures.found;
+      workers = c.in_ok-number_at-2.ensures.found;
+    }

@@ -1,7 +1,6 @@
-use Rattle.std.proofs.Common.{map, string_bytes}
 use Rattle.toml.specs.View.{table_view}
 use Rattle.amt_config.{specs.Words.{words_in}, proofs.Scanning.{IsScanned}}
 use Rattle.amt_config.proofs.table.least_unknown.Given as goal
 
 abbrev pub invariant-loop-key : goal.invariant-loop-key
-invariant-loop-key l = IsScanned (words_in l.kind) (table_view l.table) (map string_bytes l.key-iterator)
+invariant-loop-key l = IsScanned (words_in l.kind) (table_view l.table) l.key-iterator

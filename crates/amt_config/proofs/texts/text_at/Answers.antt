@@ -1,19 +1,19 @@
-use Rattle.std.proofs.Common.{Some, ap, ◌∙◌}
-use Rattle.toml.specs.View.{table_view, view}
-use Rattle.amt_config.{specs.{FileKey.{word_of}, Key.{a_text, optional}}, proofs.{KeyFaults.{first_kind}, ReadTexts.{looked_none, looked_some, no_text_read, text_read}}}
+use Rattle.std.{proofs.Common.{ap, ◌∙◌, sym}, specs.Option.{option_and_then, option_copied}}
+use Rattle.toml.specs.{Data.{as_str}, View.{table_view, view}}
+use Rattle.amt_config.{specs.{FileKey.{word_of}, Key.{IsUnfit, fault_of, reason_of, text_key}, declared.fault.KeyFault.TheVariants.{Kind}}, proofs.Faults.{fails_kind, found_none, found_value, may_fail}}
 use Rattle.amt_config.proofs.texts.text_at.Goals as goal
 
 pub returns-in-None-clause-none : goal.returns-in-None-clause-none
-returns-in-None-clause-none c = λ same.
-    looked_none c.get.result c.word.result.now (word_of c.args.key) c.args.table.now c.get.ensures.value c.word.ensures c.in-None.is
+returns-in-None-clause-none c = λ same. found_none c.value_at.result _ c.value_at.ensures c.in-None.is
 
 pub returns-in-Some-as_str-clause-text : goal.returns-in-Some-as_str-clause-text
 returns-in-Some-as_str-clause-text c =
-    looked_some c.get.result c.word.result.now (word_of c.args.key) c.args.table.now c.in-Some.value c.get.ensures.value c.word.ensures c.in-Some.is
-    ∙ ap Some (text_read c.as_str.result c.in-Some-as_str.text (view c.in-Some.value.now) c.as_str.ensures c.in-Some-as_str.is)
+    ap (option_and_then as_str) (found_value c.value_at.result c.in-Some.value _ c.value_at.ensures c.in-Some.is)
+    ∙ (sym c.as_str.ensures ∙ ap option_copied c.in-Some-as_str.is)
 
 pub returns-in-None-as_str-clause-fault : goal.returns-in-None-as_str-clause-fault
-returns-in-None-as_str-clause-fault c = λ form.
-    first_kind (optional (word_of c.args.key) (a_text form)) (table_view c.args.table.now) (view c.in-Some.value.now)
-    (looked_some c.get.result c.word.result.now (word_of c.args.key) c.args.table.now c.in-Some.value c.get.ensures.value c.word.ensures c.in-Some.is)
-    (no_text_read c.as_str.result (view c.in-Some.value.now) c.as_str.ensures c.in-None-as_str.is)
+returns-in-None-as_str-clause-fault c = λ must form.
+    let key = text_key (word_of c.args.key) must form in
+    may_fail (table_view c.args.table.now) key Kind c.told.result
+    (fails_kind as_str (IsUnfit form) (fault_of (reason_of form)) key (table_view c.args.table.now) (λ value fault h. h) (view c.in-Some.value.now)
+    (found_value c.value_at.result c.in-Some.value _ c.value_at.ensures c.in-Some.is) (sym c.as_str.ensures ∙ ap option_copied c.in-None-as_str.is)) c.told.ensures

@@ -1,0 +1,8 @@
+use Rattle.std.proofs.Common.{ℕ, List, ap, ◌∙◌}
+use Rattle.toml.{proofs.Views.{table_get}, specs.{Data.{get_member}, View.{table_view}}}
+use Rattle.amt_config.proofs.table.value_at.Goals as goal
+
+pub returns : goal.returns
+returns c =
+    table_get c.get.result c.word.result.now c.args.table.now.entries c.get.ensures.value
+    ∙ ap (λ (word : List ℕ). get_member word (table_view c.args.table.now)) c.word.ensures
