@@ -64,16 +64,7 @@ secret-uncounted counts secret =
     let packets : counts.packets ≡ counts.packets + 0 = omega arith in
     let updated : counts.updated ≡ counts.updated + 0 = omega arith in
     let torn : counts.torn ≡ counts.torn + 0 = omega arith in
-    λ i. record {
-      datagrams = datagrams i;
-      packets = packets i;
-      updated = updated i;
-      torn = torn i;
-      sent = counts.sent;
-      unsent = counts.unsent;
-      starved = counts.starved;
-      late = counts.late;
-    }
+    λ i. record counts { datagrams = datagrams i; packets = packets i; updated = updated i; torn = torn i }
 
 -- neither is a publishing that memory refused
 pub IsCounted-late : (settings : Settings) (first : Secret) (events : List Event) (counts counts' : Counts) → counts' ≡ with_late counts → IsCounted settings first events counts

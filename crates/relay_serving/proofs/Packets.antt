@@ -74,13 +74,4 @@ counted-packet counts bytes outcome plain =
     let none : (number : ℕ) → number ≡ number + 0 = λ number. omega arith in
     let updated = none counts.updated ∙ ap (λ (known : Bool). counts.updated + (if known then 1 else 0)) (sym plain.0) in
     let torn = none counts.torn ∙ ap (λ (known : Bool). counts.torn + (if known then 1 else 0)) (sym plain.1) in
-    λ i. record {
-      datagrams = none counts.datagrams i;
-      packets = counts.packets + 1;
-      updated = updated i;
-      torn = torn i;
-      sent = counts.sent;
-      unsent = counts.unsent;
-      starved = counts.starved;
-      late = counts.late;
-    }
+    λ i. record counts { datagrams = none counts.datagrams i; packets = counts.packets + 1; updated = updated i; torn = torn i }

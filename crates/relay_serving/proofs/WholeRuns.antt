@@ -15,18 +15,8 @@ use Rattle.relay_serving.specs.Runs.{HasEnded, IsCut, MayGo, Run, served, turns_
 use Rattle.relay_serving.specs.Sending.{answers_after, due_of, dues_after}
 use Rattle.relay_serving.specs.Serving.{AreOwedLate, ArePublished, IsOwedBy, OutsServed, Serves, StartsWorkers, one_lost, unused, used}
 use Rattle.relay_serving.specs.Servers.{events_in, first_in, happenings_in, owing_in, published_in, settings_in, slots_in, tally_in}
-use Rattle.relay_serving.specs.{Starting.{AreLeftBy, AreStarts, IsAtStart}, Turning.{EndsIn, RunsSo}, Turns.{Progress, Turn}, declared.counts.Counts.{Counts}}
+use Rattle.relay_serving.specs.{Starting.{AreLeftBy, AreStarts, IsAtStart}, Traces.{world}, Turning.{RunsSo}, Turns.{Progress, Turn}, declared.counts.Counts.{Counts}}
 use Rattle.relay_serving.{specs.declared.{plan.{ServePlan.{ServePlan}, ServeReport.{ServeReport}}, server.{Server.{Server}, ending.Ending.{Ending}}}, proofs.{GivenOut.{jobs_count}, Owed.{is_prompt, owed_by}, OwedLate.{AreOwedLate-none}, SlotsServed.{Slotted, all_inline, are_served, slotted}, Started.{starts_all, starts_none, starts_refused}, Together.{read_prefixes}}}
-
--- which end it is
-abbrev number_of : End → ℕ
-number_of Turns = 0
-number_of Closed = 1
-number_of LinkFault = 2
-number_of FeedFault = 3
-number_of WordsFault = 4
-number_of SpawnFault = 5
-number_of Memory = 6
 
 -- of a run without any turn
 abbrev unrun : List ℕ → Run
@@ -70,11 +60,11 @@ pub serves_without_secret : (settings : Settings) (plan : ServePlan) (first : Li
     → AppendsAll words.given words'.given first → length first < 4 → Rose words.faults words'.faults
     → Serves settings plan (devices_seen clock words link feed starts faults) (devices_seen clock words' link feed starts faults) outs outs [] (unused_report WordsFault)
 serves_without_secret settings plan first clock words words' link feed starts faults outs drawn few rose =
-    let not_spawn : WordsFault ≢ SpawnFault = λ is. (let same : 4 ≡ 5 = ap number_of is in omega (arith, same)) in
+    let not_spawn : WordsFault ≢ SpawnFault = λ is. cc is in
     not_run settings plan WordsFault first clock words words' link feed starts starts faults faults outs outs drawn (without_secret few refl refl refl)
     (unused not_spawn refl refl refl (record { no_inline = refl; none_owed = refl; none_published = refl; none_apart = refl }) refl refl)
     (starts_none plan.workers WordsFault starts starts refl)
-    (λ is. (let same : 4 ≡ 2 = ap number_of is in omega (arith, same))) (λ is. (let same : 4 ≡ 3 = ap number_of is in omega (arith, same))) ((λ is. rose), (λ other. absurd (other refl))) ((λ is. absurd (not_spawn is)), (λ other. refl))
+    (λ is. cc is) (λ is. cc is) ((λ is. rose), (λ other. absurd (other refl))) ((λ is. absurd (not_spawn is)), (λ other. refl))
 
 -- no relay was started
 pub serves_unstarted : (settings : Settings) (plan : ServePlan) (end : End) (first : List ℕ) (clock : Option (List ℕ)) (words words' : WordsSeen) (link : LinkSeen) (feed : FeedSeen) (starts starts' : Option ℕ) (faults faults' : ℕ) (outs outs' : List OutSeen)
@@ -82,16 +72,16 @@ pub serves_unstarted : (settings : Settings) (plan : ServePlan) (end : End) (fir
     → (threads : Bool) → threads ≡ not (plan.workers == 0) → (threads ≡ false → starts' ≡ starts)
     → Serves settings plan (devices_seen clock words link feed starts faults) (devices_seen clock words' link feed starts' faults') outs outs' [] (unused_report end)
 serves_unstarted settings plan Memory first clock words words' link feed starts starts' faults faults' outs outs' drawn four quiet left threads mode idle =
-    let not_spawn : Memory ≢ SpawnFault = λ is. (let same : 6 ≡ 5 = ap number_of is in omega (arith, same)) in
+    let not_spawn : Memory ≢ SpawnFault = λ is. cc is in
     not_run settings plan Memory first clock words words' link feed starts starts' faults faults' outs outs' drawn (unstarted four (inl refl) refl refl)
     (unused not_spawn refl left.0 refl (record { no_inline = refl; none_owed = refl; none_published = refl; none_apart = refl }) refl refl)
     (starts_none plan.workers Memory starts starts' left.1)
-    (λ is. (let same : 6 ≡ 2 = ap number_of is in omega (arith, same))) (λ is. (let same : 6 ≡ 3 = ap number_of is in omega (arith, same))) ((λ is. (let same : 6 ≡ 4 = ap number_of is in omega (arith, same))), (λ other. quiet)) ((λ is. absurd (not_spawn is)), (λ other. left.2))
+    (λ is. cc is) (λ is. cc is) ((λ is. cc is), (λ other. quiet)) ((λ is. absurd (not_spawn is)), (λ other. left.2))
 serves_unstarted settings plan SpawnFault first clock words words' link feed starts starts' faults faults' outs outs' drawn four quiet left threads mode idle =
     not_run settings plan SpawnFault first clock words words' link feed starts starts' faults faults' outs outs' drawn (unstarted four (inr refl) refl refl)
     (one_lost refl refl left.0 refl (record { no_inline = refl; none_owed = refl; none_published = refl; none_apart = refl }) refl refl)
     (starts_refused plan.workers threads starts starts' mode idle)
-    (λ is. (let same : 5 ≡ 2 = ap number_of is in omega (arith, same))) (λ is. (let same : 5 ≡ 3 = ap number_of is in omega (arith, same))) ((λ is. (let same : 5 ≡ 4 = ap number_of is in omega (arith, same))), (λ other. quiet)) ((λ is. left.1), (λ other. absurd (other refl)))
+    (λ is. cc is) (λ is. cc is) ((λ is. cc is), (λ other. quiet)) ((λ is. left.1), (λ other. absurd (other refl)))
 serves_unstarted settings plan Turns first clock words words' link feed starts starts' faults faults' outs outs' drawn four quiet left threads mode idle = absurd left
 serves_unstarted settings plan Closed first clock words words' link feed starts starts' faults faults' outs outs' drawn four quiet left threads mode idle = absurd left
 serves_unstarted settings plan LinkFault first clock words words' link feed starts starts' faults faults' outs outs' drawn four quiet left threads mode idle = absurd left
@@ -122,7 +112,7 @@ has_risen before after result failed cause is = (subst (λ (one : Result Secret 
 
 -- no start is refused in turns
 no_spawn : (plan : ServePlan) (end : End) (done : ℕ) (last : Progress) (cut : Option Turn) → HasEnded plan end done last cut → end ≢ SpawnFault
-no_spawn plan end done last None ended is = (let same : 0 ≡ 5 = ap number_of (sym ended.0 ∙ is) in omega (arith, same))
+no_spawn plan end done last None ended is = cc (sym ended.0 ∙ is)
 no_spawn plan end done last (Some turn) ended is = subst (λ (one : End). IsCut one plan.rotate_ms last turn) is ended.1
 
 sum_is : (now start more outs : ℕ) → now ≡ start + more → start ≡ 0 → now + outs ≡ more + outs
@@ -166,27 +156,27 @@ module _ {O : Type 0} {g : Ghosts O} {T : Type 0} where
       (clock clock' : Option (List ℕ)) (words words' words'' : WordsSeen) (link link' : LinkSeen) (feed feed' : FeedSeen)
       (secret_is : secret ≡ secret_by drawn) (four : length drawn ≡ 4) (gave : AppendsAll words.given words'.given drawn) (quiet : words'.faults ≡ words.faults)
       (at : IsAtStart settings secret outs threads start)
-      (runs : RunsSo plan start server (devices_seen clock words' link feed None 0) (devices_seen clock' words'' link' feed' None 0) end turns)
-      (ends : EndsIn end (devices_seen clock words' link feed None 0) (devices_seen clock' words'' link' feed' None 0))
+      (link_wait link_wait' feed_wait feed_wait' room room' : ℕ)
+      (runs : RunsSo plan (world start (devices_seen clock words' link feed None 0) link_wait feed_wait room) (world server (devices_seen clock' words'' link' feed' None 0) link_wait' feed_wait' room') end turns)
       (finishes : Finishes server ending) (some : 1 ≤ plan.turns) (number : length outs ≡ max plan.workers 1) (mode : threads ≡ not (plan.workers == 0))
       (starts starts' : Option ℕ) (all_started : threads ≡ true → HaveStarted (length outs) starts starts') (idle : threads ≡ false → starts' ≡ starts) where
     abbrev run_of : Run
     run_of = record { first = drawn; whole = runs.whole; cut = runs.cut }
 
     settings_are : settings_in server ≡ settings
-    settings_are = runs.goes.happens.same.same_settings ∙ at.settings_are
+    settings_are = runs.does.happens.same.same_settings ∙ at.settings_are
 
     first_is : first_in server ≡ first_of run_of
-    first_is = runs.goes.happens.same.same_first ∙ at.first_is ∙ secret_is
+    first_is = runs.does.happens.same.same_first ∙ at.first_is ∙ secret_is
 
     happened : happenings_in server ≡ happenings_of run_of
-    happened = runs.goes.happens.happened ∙ ap (λ (list : List Happening). list ++ happenings_of run_of) at.none_happened
+    happened = runs.does.happens.happened ∙ ap (λ (list : List Happening). list ++ happenings_of run_of) at.none_happened
 
     events_are : events_in server ≡ events_of run_of
     events_are = ap events_among happened
 
     outs_were : map out_of (starts_in (slots_in server)) ≡ outs
-    outs_were = ap (map out_of) runs.goes.happens.same.same_starts ∙ at.outs_are
+    outs_were = ap (map out_of) runs.does.happens.same.same_starts ∙ at.outs_are
 
     counted : AreCounted settings (first_of run_of) (events_of run_of) ending.counts.datagrams ending.counts.packets ending.counts.updated ending.counts.torn
     counted =
@@ -194,11 +184,11 @@ module _ {O : Type 0} {g : Ghosts O} {T : Type 0} where
         (moved (λ settings first events. AreCounted settings first events server.counts.datagrams server.counts.packets server.counts.updated server.counts.torn)
         settings_are first_is events_are server.counted.events_are)
 
-    tried : HasTried link.tried link'.tried link.send_faults link'.send_faults (answers_after settings (first_of run_of) [] (events_of run_of)) runs.goes.answered.more runs.goes.answered.missed
+    tried : HasTried link.tried link'.tried link.send_faults link'.send_faults (answers_after settings (first_of run_of) [] (events_of run_of)) runs.does.answered.more runs.does.answered.missed
     tried =
-        subst (λ (wanted : List (Peer × List ℕ)). HasTried link.tried link'.tried link.send_faults link'.send_faults wanted runs.goes.answered.more runs.goes.answered.missed)
+        subst (λ (wanted : List (Peer × List ℕ)). HasTried link.tried link'.tried link.send_faults link'.send_faults wanted runs.does.answered.more runs.does.answered.missed)
         (λ i. answers_after (at.settings_are i) ((at.first_is ∙ secret_is) i) (events_among (at.none_happened i)) (events_of run_of))
-        runs.goes.answered.tried
+        runs.does.answered.tried
 
     published_is : published_in server ≡ published_log settings (first_of run_of) (published_events run_of)
     published_is = server.shown ∙ (λ i. published_log (settings_are i) (first_is i) (published_events_among (happened i)))
@@ -234,7 +224,7 @@ module _ {O : Type 0} {g : Ghosts O} {T : Type 0} where
 
       inline : ending.inline ≡ (if plan.workers == 0 then ending.counts.packets else 0)
       inline = inline_of ending.inline ending.counts.packets (jobs_in_all (slots_in server)) (is_threaded server.dispatcher) (plan.workers == 0)
-          finishes.inline_is (runs.goes.happens.same.same_mode ∙ at.mode ∙ mode)
+          finishes.inline_is (runs.does.happens.same.same_mode ∙ at.mode ∙ mode)
           (λ none.
           let zero_workers = zero_of plan.workers none in
           let outs_number = ap length outs_were in
@@ -248,13 +238,13 @@ module _ {O : Type 0} {g : Ghosts O} {T : Type 0} where
           let are = are_served settings outs ending.outs given.jobs (slots_in server) finishes.left_views (views_of ending.views) ending.outs_sent ending.outs_unsent finishes.left given.at_slots outs_were slots in record {
             run = run_of;
             goes = served runs.last four runs.are_whole runs.ended;
-            clock = runs.goes.clock;
-            words = AppendsAll-then words.given words'.given words''.given drawn (words_drawn (turns_of run_of)) gave runs.goes.words;
-            link = runs.goes.link;
-            feed = runs.goes.feed;
+            clock = runs.does.clock;
+            words = AppendsAll-then words.given words'.given words''.given drawn (words_drawn (turns_of run_of)) gave runs.does.words;
+            link = runs.does.link;
+            feed = runs.does.feed;
             started = starts_all plan end runs.last runs.whole runs.cut (length outs) threads starts starts' some runs.ended mode number all_started idle;
-            link_sent = runs.goes.answered.more;
-            link_unsent = runs.goes.answered.missed;
+            link_sent = runs.does.answered.more;
+            link_unsent = runs.does.answered.missed;
             link_tried = tried;
             outs_sent = ending.outs_sent;
             outs_unsent = ending.outs_unsent;
@@ -264,16 +254,16 @@ module _ {O : Type 0} {g : Ghosts O} {T : Type 0} where
             prompt = is_prompt settings (first_of run_of);
             turns_are = runs.done_is;
             counted = counted;
-            sent_are = ap (λ (counts : Counts). counts.sent + ending.outs_sent) finishes.same_counts ∙ sum_is server.counts.sent start.counts.sent runs.goes.answered.more ending.outs_sent runs.goes.answered.sent_are (ap (λ (counts : Counts). counts.sent) at.none_counted);
-            unsent_are = ap (λ (counts : Counts). counts.unsent + ending.outs_unsent) finishes.same_counts ∙ sum_is server.counts.unsent start.counts.unsent runs.goes.answered.missed ending.outs_unsent runs.goes.answered.unsent_are (ap (λ (counts : Counts). counts.unsent) at.none_counted);
+            sent_are = ap (λ (counts : Counts). counts.sent + ending.outs_sent) finishes.same_counts ∙ sum_is server.counts.sent start.counts.sent runs.does.answered.more ending.outs_sent runs.does.answered.sent_are (ap (λ (counts : Counts). counts.sent) at.none_counted);
+            unsent_are = ap (λ (counts : Counts). counts.unsent + ending.outs_unsent) finishes.same_counts ∙ sum_is server.counts.unsent start.counts.unsent runs.does.answered.missed ending.outs_unsent runs.does.answered.unsent_are (ap (λ (counts : Counts). counts.unsent) at.none_counted);
             starved_are = ap (λ (counts : Counts). counts.starved) finishes.same_counts
-                ∙ from_none server.counts.starved start.counts.starved _ runs.goes.refused.starved_are (ap (λ (counts : Counts). counts.starved) at.none_counted);
+                ∙ from_none server.counts.starved start.counts.starved _ runs.does.refused.starved_are (ap (λ (counts : Counts). counts.starved) at.none_counted);
             late_are = ap (λ (counts : Counts). counts.late) finishes.same_counts
-                ∙ from_none server.counts.late start.counts.late _ runs.goes.refused.late_are (ap (λ (counts : Counts). counts.late) at.none_counted);
+                ∙ from_none server.counts.late start.counts.late _ runs.does.refused.late_are (ap (λ (counts : Counts). counts.late) at.none_counted);
             late_owed = late_owed;
-            link_cause = ends.link;
-            feed_cause = ends.feed;
-            words_cause = subst (λ (count : ℕ). IsCauseOf end WordsFault count words''.faults) quiet ends.words;
+            link_cause = runs.causes.link;
+            feed_cause = runs.causes.feed;
+            words_cause = subst (λ (count : ℕ). IsCauseOf end WordsFault count words''.faults) quiet runs.causes.words;
             start_cause = ((λ is. absurd (no_spawn plan end (length runs.whole) runs.last runs.cut runs.ended is)), (λ other. same));
           }
 
@@ -282,7 +272,7 @@ module _ {O : Type 0} {g : Ghosts O} {T : Type 0} where
         → ∥ Serves settings plan (devices_seen clock words link feed starts faults) (devices_seen clock' words'' link' feed' starts' faults') (outs_seen g.tried g.faults outs) (outs_seen g.tried g.faults ending.outs) (views_of ending.views) (report_of end turns ending) ∥₁
     serves_run faults faults' same =
         let left = finishes.left in
-        let firsts = subst (AreStarts settings (book_of start.publisher)) (sym (ap starts_in left.slots_are ∙ runs.goes.happens.same.same_starts)) at.starts in
+        let firsts = subst (AreStarts settings (book_of start.publisher)) (sym (ap starts_in left.slots_are ∙ runs.does.happens.same.same_starts)) at.starts in
         let further = subst (λ (list : List View). AllZip (λ one other. BeginsWith (seen other) (seen one)) list (views_of ending.views)) (sym left.views_are) finishes.asked.further in
         ∥∥₁_elim server.given_out ∥∥₁_prop (λ given.
         ∥∥₁_map (slotted settings (book_of start.publisher) left.lefts (views_of ending.views) left.each firsts further)

@@ -38,55 +38,24 @@ one_if condition = if condition then 1 else 0
 
 -- the counts after one event more, which came to this
 abbrev pub with_outcome : Counts → Event → Outcome → Counts
-with_outcome counts event outcome = record {
+with_outcome counts event outcome = record counts {
   datagrams = counts.datagrams + one_if (is_datagram event);
   packets = counts.packets + one_if (is_packet event);
   updated = counts.updated + one_if (is_updated outcome);
   torn = counts.torn + one_if (is_torn outcome);
-  sent = counts.sent;
-  unsent = counts.unsent;
-  starved = counts.starved;
-  late = counts.late;
 }
 
 -- the counts after one packet more
 abbrev pub with_packet : Counts → Counts
-with_packet counts = record {
-  datagrams = counts.datagrams;
-  packets = counts.packets + 1;
-  updated = counts.updated;
-  torn = counts.torn;
-  sent = counts.sent;
-  unsent = counts.unsent;
-  starved = counts.starved;
-  late = counts.late;
-}
+with_packet counts = record counts { packets = counts.packets + 1 }
 
 -- the counts after one event more that memory refused
 abbrev pub with_starved : Counts → Counts
-with_starved counts = record {
-  datagrams = counts.datagrams;
-  packets = counts.packets;
-  updated = counts.updated;
-  torn = counts.torn;
-  sent = counts.sent;
-  unsent = counts.unsent;
-  starved = counts.starved + 1;
-  late = counts.late;
-}
+with_starved counts = record counts { starved = counts.starved + 1 }
 
 -- the counts after one publishing more that memory refused
 abbrev pub with_late : Counts → Counts
-with_late counts = record {
-  datagrams = counts.datagrams;
-  packets = counts.packets;
-  updated = counts.updated;
-  torn = counts.torn;
-  sent = counts.sent;
-  unsent = counts.unsent;
-  starved = counts.starved;
-  late = counts.late + 1;
-}
+with_late counts = record counts { late = counts.late + 1 }
 
 -- nothing more was counted but sends
 pub record CountsAlike (before after : Counts) : Type 0 where

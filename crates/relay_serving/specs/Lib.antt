@@ -1,3 +1,4 @@
+pub mod Askings
 pub mod Counting
 pub mod Courses
 pub mod Devices
@@ -14,6 +15,7 @@ pub mod Servers
 pub mod Serving
 pub mod Stages
 pub mod Starting
+pub mod Traces
 pub mod Turning
 pub mod Turns
 pub mod Views

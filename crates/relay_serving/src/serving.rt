@@ -3,8 +3,8 @@
 ghost use Rattle.std.specs.Prelude.{◌≡◌, ◌≤◌, ◌<◌, ◌+◌, ◌^◌, [], IfOk, length, max};
 ghost use Rattle.published_table.specs.Views.{room_of, views_of};
 ghost use Rattle.relay_machine.specs.Settings.{AreLawfulSettings};
-ghost use Rattle.amt_ports.specs.Devices.{WaitsBriefly, feed_seen, link_seen, words_seen};
-ghost use Rattle.relay_serving.specs.{Devices.{devices_seen, outs_seen}, Plans.{IsLawfulPlan}, Reports.{report_of, unused_report}, Serving.{Serves}};
+ghost use Rattle.amt_ports.specs.Devices.{WaitsBriefly};
+ghost use Rattle.relay_serving.specs.{Devices.{devices_seen, feed_at, link_at, outs_seen, words_at}, Plans.{IsLawfulPlan}, Reports.{report_of, unused_report}, Serving.{Serves}};
 
 use crate::plan::{ServePlan, ServeReport, Served};
 use crate::secret::draw_secret;
@@ -135,12 +135,8 @@ pub fn serve_relay<
     requires plan { IsLawfulPlan plan.now }
     requires outs { length outs ≡ max plan.now.workers 1 }
     ensures serves { ∥ Serves settings plan.now
-        (devices_seen (C.given clock.old) (words_seen (W.given words.old) (W.faults words.old))
-        (link_seen (L.coming link.old) (L.tried link.old) (L.receive_faults link.old) (L.send_faults link.old))
-        (feed_seen (F.coming feed.old) (F.faults feed.old)) (P.starts spawner.old) (P.faults spawner.old))
-        (devices_seen (C.given clock.new) (words_seen (W.given words.new) (W.faults words.new))
-        (link_seen (L.coming link.new) (L.tried link.new) (L.receive_faults link.new) (L.send_faults link.new))
-        (feed_seen (F.coming feed.new) (F.faults feed.new)) (P.starts spawner.new) (P.faults spawner.new))
+        (devices_seen (C.given clock.old) (words_at W.Words words.old) (link_at L.Link link.old) (feed_at F.Feed feed.old) (P.starts spawner.old) (P.faults spawner.old))
+        (devices_seen (C.given clock.new) (words_at W.Words words.new) (link_at L.Link link.new) (feed_at F.Feed feed.new) (P.starts spawner.new) (P.faults spawner.new))
         (outs_seen O.tried O.faults outs) (outs_seen O.tried O.faults result.outs)
         (views_of result.views) result.report ∥₁ }
 

@@ -1,7 +1,7 @@
 //! How a running relay takes an event.
-ghost use Rattle.std.specs.Prelude.{◌≡◌, ◌≤◌, ◌<◌, ◌+◌, ◌^◌, [], ◌∷◌, IfOk, OnOk, OnErr, false};
+ghost use Rattle.std.specs.Prelude.{◌≡◌, ◌<◌, ◌^◌, [], ◌∷◌, IfOk, OnOk, OnErr, false};
 ghost use Rattle.relay_machine.specs.{Answers.{outcome_of, sends_of}, EventSize.{IsEvent}, declared.event.Event.TheVariants.{Rotate}};
-ghost use Rattle.relay_serving.specs.{Counting.{is_packet, with_outcome}, Servers.{HasEvents, IsAsBefore, IsStarved, counts_in, events_in, first_in, settings_in, tally_in}, Stages.{PassesMoment}};
+ghost use Rattle.relay_serving.specs.{Counting.{is_packet, with_outcome}, Servers.{HasEvents, IsAsBefore, counts_in, events_in, first_in, settings_in, tally_in}, Stages.{PassesMoment}, Traces.{ServerDoes, starving, taking}};
 
 use super::Server;
 use amt_ports::OutLink;
@@ -43,7 +43,6 @@ impl<O: OutLink + Drop, T> Server<O, T> {
     pub(crate) fn pass_moment(&mut self, alloc: Global, at: Moment)
         requires few { tally_in self.old < 2 ^ 50 }
         ensures passes { PassesMoment at self.old self.new }
-        ensures few { tally_in self.new ≤ tally_in self.old + 1 }
     {
         match self.enter(alloc, &Event::Moment(at)) {
             Ok(_sends) => {} // Nothing is sent then.
@@ -54,15 +53,14 @@ impl<O: OutLink + Drop, T> Server<O, T> {
     /// Counts an event that memory refused.
     pub(super) fn starve(&mut self)
         requires few { tally_in self.old < 2 ^ 50 }
-        ensures { IsStarved self.old self.new }
+        ensures starves { ServerDoes starving self.old self.new }
     {
         self.counts.count_starved();
     }
 
     /// This secret is the current one from now on. It takes no memory.
     pub(crate) fn rotate(&mut self, alloc: Global, secret: Secret)
-        ensures events { HasEvents self.old self.new (Rotate secret ∷ []) }
-        ensures counts { counts_in self.new ≡ counts_in self.old }
+        ensures takes { ServerDoes (taking (Rotate secret) 0) self.old self.new }
     {
         let event = Event::Rotate(secret);
         match self.relay.step(alloc, &event) {

@@ -1,8 +1,7 @@
 //! How a running relay takes packets from its feed.
-ghost use Rattle.std.specs.Prelude.{◌≡◌, ◌≤◌, ◌<◌, ◌+◌, ◌^◌, [], ◌∷◌, length, IsErrOf, OnOk, OnErr};
+ghost use Rattle.std.specs.Prelude.{◌≤◌, ◌<◌, ◌+◌, ◌^◌, length, OnOk, OnErr};
 ghost use Rattle.relay_machine.specs.declared.event.Event.TheVariants.{Packet};
-ghost use Rattle.amt_ports.specs.{Bursts.{AreAsked, IsNext}, EndCauses.{IsCausedBy}, Devices.{WaitsBriefly, feed_seen}};
-ghost use Rattle.relay_serving.specs.{Counting.{with_packet}, Servers.{FeedsSo, HasEvents, IsAsBefore, counts_in, tally_in}, Turns.{from_feed}};
+ghost use Rattle.relay_serving.specs.{Askings.{AreAsked, IsNext}, Devices.{feed_at}, Servers.{counts_in, tally_in}, Traces.{FeedsSo, ServerDoes, nothing, taking}};
 
 use super::Server;
 use amt_ports::{Asked, BURST, End, Feed, FeedGot, OutLink, WAIT_MS};
@@ -21,9 +20,8 @@ impl<O: OutLink + Drop, T> Server<O, T> {
     ) -> Result<(), AllocError>
         requires short { length packet.now ≤ 65535 }
         requires few { (counts_in self.old).packets < 2 ^ 46 }
-        ensures events { OnOk result (HasEvents self.old self.new (Packet packet.now ∷ [])) }
-        ensures counts { OnOk result (counts_in self.new ≡ with_packet (counts_in self.old)) }
-        ensures err { OnErr result (IsAsBefore self.old self.new) }
+        ensures takes { OnOk result (ServerDoes (taking (Packet packet.now) 1) self.old self.new) }
+        ensures none { OnErr result (ServerDoes nothing self.old self.new) }
     {
         let packet = Bytes::copied(alloc, packet)?;
         self.course = self.course.fed(&packet);
@@ -48,14 +46,8 @@ impl<O: OutLink + Drop, T> Server<O, T> {
         requires room { 65536 ≤ length buf.old }
         requires few { (counts_in self.old).packets < 2 ^ 46 }
         requires tally { tally_in self.old < 2 ^ 50 }
-        ensures feeds { FeedsSo self.old self.new (feed_seen (F.coming feed.old) (F.faults feed.old))
-            (feed_seen (F.coming feed.new) (F.faults feed.new)) (IsNext from_feed result) }
-        ensures counted { (counts_in self.new).packets ≤ (counts_in self.old).packets + 1 }
-        ensures few { tally_in self.new ≤ tally_in self.old + 1 }
-        ensures of_feed { IsErrOf result End.LinkFault → ⊥ }
-        ensures cause { IsCausedBy result End.FeedFault (F.faults feed.old) (F.faults feed.new) }
-        ensures waits { WaitsBriefly (F.longest_wait feed.old) (F.longest_wait feed.new) }
-        ensures buffer { length buf.new ≡ length buf.old }
+        ensures feeds { FeedsSo IsNext self.old self.new (feed_at F.Feed feed.old) (feed_at F.Feed feed.new)
+            (F.longest_wait feed.old) (F.longest_wait feed.new) (length buf.old) (length buf.new) result }
     {
         match feed.recv(buf, WAIT_MS) {
             Ok(FeedGot::Packet(octets)) => match self.feed_packet(rt, alloc, &buf[..octets]) {
@@ -82,14 +74,8 @@ impl<O: OutLink + Drop, T> Server<O, T> {
         requires room { 65536 ≤ length buf.old }
         requires few { (counts_in self.old).packets + 64 ≤ 2 ^ 46 }
         requires tally { tally_in self.old + 64 < 2 ^ 50 }
-        ensures feeds { FeedsSo self.old self.new (feed_seen (F.coming feed.old) (F.faults feed.old))
-            (feed_seen (F.coming feed.new) (F.faults feed.new)) (AreAsked from_feed result) }
-        ensures counted { (counts_in self.new).packets ≤ (counts_in self.old).packets + 64 }
-        ensures few { tally_in self.new ≤ tally_in self.old + 64 }
-        ensures of_feed { IsErrOf result End.LinkFault → ⊥ }
-        ensures cause { IsCausedBy result End.FeedFault (F.faults feed.old) (F.faults feed.new) }
-        ensures waits { WaitsBriefly (F.longest_wait feed.old) (F.longest_wait feed.new) }
-        ensures buffer { length buf.new ≡ length buf.old }
+        ensures feeds { FeedsSo AreAsked self.old self.new (feed_at F.Feed feed.old) (feed_at F.Feed feed.new)
+            (F.longest_wait feed.old) (F.longest_wait feed.new) (length buf.old) (length buf.new) result }
     {
         for _ in 0..BURST {
             match self.feed_next(rt, alloc, feed, buf)? {

@@ -1,9 +1,8 @@
 //! How a running relay hears its link.
-ghost use Rattle.std.specs.Prelude.{◌≡◌, ◌≤◌, ◌<◌, ◌+◌, ◌^◌, [], ◌∷◌, length, map, IsErrOf, OnOk, OnErr};
-ghost use Rattle.relay_machine.specs.{Answers.{sends_of}, declared.event.Event.TheVariants.{Datagram}};
-ghost use Rattle.amt_ports.specs.{Bursts.{AreAsked, IsNext}, EndCauses.{IsCausedBy}, Devices.{WaitsBriefly, link_seen}};
+ghost use Rattle.std.specs.Prelude.{◌≡◌, ◌≤◌, ◌<◌, ◌+◌, ◌^◌, length, map, OnOk, OnErr};
+ghost use Rattle.relay_machine.specs.declared.event.Event.TheVariants.{Datagram};
 ghost use Rattle.replication_workers.specs.Replication.{to_peer};
-ghost use Rattle.relay_serving.specs.{Counting.{CountsAlike, HasAnswered, HasRefused}, Servers.{HasEvents, HearsSo, IsAsBefore, counts_in, events_in, first_in, settings_in, tally_in}, Turns.{from_link}};
+ghost use Rattle.relay_serving.specs.{Askings.{AreAsked, IsNext}, Counting.{CountsAlike, HasAnswered}, Devices.{link_at}, Servers.{tally_in}, Traces.{HearsSo, LinkDoes, nothing, taking}};
 
 use super::Server;
 use crate::counts::Counts;
@@ -16,10 +15,7 @@ use std::alloc::{AllocError, Global};
 fn send_answers<L: Link>(link: &mut L, sends: &[OneSend], counts: &mut Counts)
     requires few { length sends.now ≤ 1 }
     requires room { counts.old.sent + counts.old.unsent < 2 ^ 62 }
-    ensures answered { HasAnswered
-        (link_seen (L.coming link.old) (L.tried link.old) (L.receive_faults link.old) (L.send_faults link.old))
-        (link_seen (L.coming link.new) (L.tried link.new) (L.receive_faults link.new) (L.send_faults link.new))
-        counts.old counts.new (map to_peer sends.now) }
+    ensures answered { HasAnswered (link_at L.Link link.old) (link_at L.Link link.new) counts.old counts.new (map to_peer sends.now) }
     ensures coming { L.coming link.new ≡ L.coming link.old }
     ensures faults { L.receive_faults link.new ≡ L.receive_faults link.old }
     ensures waits { L.longest_wait link.new ≡ L.longest_wait link.old }
@@ -44,18 +40,11 @@ impl<O: OutLink + Drop, T> Server<O, T> {
     ) -> Result<(), AllocError>
         requires short { length bytes.now ≤ 65535 }
         requires few { tally_in self.old < 2 ^ 50 }
-        ensures events { OnOk result (HasEvents self.old self.new (Datagram bytes.now from ∷ [])) }
-        ensures refused { OnOk result (HasRefused (counts_in self.old) (counts_in self.new) 0 0) }
-        ensures answered { OnOk result (HasAnswered
-            (link_seen (L.coming link.old) (L.tried link.old) (L.receive_faults link.old) (L.send_faults link.old))
-            (link_seen (L.coming link.new) (L.tried link.new) (L.receive_faults link.new) (L.send_faults link.new))
-            (counts_in self.old) (counts_in self.new)
-            (map to_peer (sends_of (settings_in self.old) (first_in self.old) (events_in self.old) (Datagram bytes.now from)))) }
-        ensures coming { L.coming link.new ≡ L.coming link.old }
+        ensures takes { OnOk result (LinkDoes (taking (Datagram bytes.now from) 0) self.old self.new (link_at L.Link link.old) (link_at L.Link link.new)
+            (L.longest_wait link.old) (L.longest_wait link.new)) }
+        ensures none { OnErr result (LinkDoes nothing self.old self.new (link_at L.Link link.old) (link_at L.Link link.new)
+            (L.longest_wait link.old) (L.longest_wait link.new)) }
         ensures faults { L.receive_faults link.new ≡ L.receive_faults link.old }
-        ensures waits { L.longest_wait link.new ≡ L.longest_wait link.old }
-        ensures err { OnErr result (IsAsBefore self.old self.new) }
-        ensures unsent { OnErr result (link.new ≡ link.old) }
     {
         let event = Event::Datagram {
             bytes: Bytes::copied(alloc, bytes)?,
@@ -75,15 +64,8 @@ impl<O: OutLink + Drop, T> Server<O, T> {
     ) -> Result<Asked, End>
         requires room { 65536 ≤ length buf.old }
         requires few { tally_in self.old < 2 ^ 50 }
-        ensures hears { HearsSo self.old self.new
-            (link_seen (L.coming link.old) (L.tried link.old) (L.receive_faults link.old) (L.send_faults link.old))
-            (link_seen (L.coming link.new) (L.tried link.new) (L.receive_faults link.new) (L.send_faults link.new))
-            (IsNext from_link result) }
-        ensures few { tally_in self.new ≤ tally_in self.old + 1 }
-        ensures of_link { IsErrOf result End.FeedFault → ⊥ }
-        ensures cause { IsCausedBy result End.LinkFault (L.receive_faults link.old) (L.receive_faults link.new) }
-        ensures waits { WaitsBriefly (L.longest_wait link.old) (L.longest_wait link.new) }
-        ensures buffer { length buf.new ≡ length buf.old }
+        ensures hears { HearsSo IsNext self.old self.new (link_at L.Link link.old) (link_at L.Link link.new)
+            (L.longest_wait link.old) (L.longest_wait link.new) (length buf.old) (length buf.new) result }
     {
         match link.recv(buf, WAIT_MS) {
             Ok(Got::Datagram(from, octets)) => {
@@ -110,15 +92,8 @@ impl<O: OutLink + Drop, T> Server<O, T> {
     ) -> Result<(), End>
         requires room { 65536 ≤ length buf.old }
         requires few { tally_in self.old + 64 < 2 ^ 50 }
-        ensures hears { HearsSo self.old self.new
-            (link_seen (L.coming link.old) (L.tried link.old) (L.receive_faults link.old) (L.send_faults link.old))
-            (link_seen (L.coming link.new) (L.tried link.new) (L.receive_faults link.new) (L.send_faults link.new))
-            (AreAsked from_link result) }
-        ensures few { tally_in self.new ≤ tally_in self.old + 64 }
-        ensures of_link { IsErrOf result End.FeedFault → ⊥ }
-        ensures cause { IsCausedBy result End.LinkFault (L.receive_faults link.old) (L.receive_faults link.new) }
-        ensures waits { WaitsBriefly (L.longest_wait link.old) (L.longest_wait link.new) }
-        ensures buffer { length buf.new ≡ length buf.old }
+        ensures hears { HearsSo AreAsked self.old self.new (link_at L.Link link.old) (link_at L.Link link.new)
+            (L.longest_wait link.old) (L.longest_wait link.new) (length buf.old) (length buf.new) result }
     {
         for _ in 0..BURST {
             match self.hear_next(alloc, link, buf)? {

@@ -1,7 +1,7 @@
 //! How a running relay publishes what it owes.
-ghost use Rattle.std.specs.Prelude.{◌≢◌, ◌≤◌, ◌<◌, ◌+◌, ◌^◌, [], MatchResult, OnErr};
+ghost use Rattle.std.specs.Prelude.{◌≢◌, ◌<◌, ◌^◌, [], MatchResult, OnErr};
 ghost use Rattle.published_table.specs.Publishers.{HasPublished, IsSamePublisher, ShowsAlike, owing};
-ghost use Rattle.relay_serving.specs.Servers.{PublishesSo, tally_in};
+ghost use Rattle.relay_serving.specs.{Servers.{tally_in}, Traces.{PublishesSo}};
 
 use super::Server;
 use amt_ports::OutLink;
@@ -27,7 +27,6 @@ impl<O: OutLink + Drop, T> Server<O, T> {
     pub(super) fn publish<R: Wait>(&mut self, rt: &R)
         requires few { tally_in self.old < 2 ^ 50 }
         ensures publishes { PublishesSo self.old self.new }
-        ensures few { tally_in self.new ≤ tally_in self.old + 1 }
     {
         match publish_owed(rt, &mut self.publisher) {
             Ok(()) => self.course = self.course.shown(),

@@ -1,7 +1,6 @@
 //! One turn of a running relay, and all of a run.
 ghost use Rattle.std.specs.Prelude.{◌≡◌, ◌≤◌, ◌<◌, ◌+◌, ◌^◌, [], length, None};
-ghost use Rattle.amt_ports.specs.{EndCauses.{IsCausedBy}, Devices.{WaitsBriefly, feed_seen, link_seen, words_seen}};
-ghost use Rattle.relay_serving.specs.{Counting.{no_counts}, Devices.{devices_seen}, Plans.{IsLawfulPlan}, Servers.{counts_in, happenings_in, tally_in}, Stages.{BeginsSo, progress_in}, Turning.{AreCausesOf, EndsIn, RunsSo, TurnsSo}};
+ghost use Rattle.relay_serving.specs.{Counting.{no_counts}, Devices.{devices_seen, feed_at, link_at, words_at}, Plans.{IsLawfulPlan}, Servers.{counts_in, happenings_in, tally_in}, Stages.{BeginsBy, progress_in}, Traces.{world}, Turning.{RunsSo, TurnsSo}};
 
 use super::Server;
 use crate::plan::ServePlan;
@@ -22,10 +21,8 @@ impl<O: OutLink + Drop, T> Server<O, T> {
         words: &mut W,
     ) -> Result<(), End>
         requires few { tally_in self.old + 2 < 2 ^ 50 }
-        ensures begins { BeginsSo rotate_ms (progress_in renewal.old) (progress_in renewal.new) self.old self.new
-            (C.given clock.old) (C.given clock.new) (W.given words.old) (W.given words.new) result }
-        ensures cause { IsCausedBy result End.WordsFault (W.faults words.old) (W.faults words.new) }
-        ensures few { tally_in self.new ≤ tally_in self.old + 2 }
+        ensures begins { BeginsBy rotate_ms (progress_in renewal.old) (progress_in renewal.new) self.old self.new
+            (C.given clock.old) (C.given clock.new) (words_at W.Words words.old) (words_at W.Words words.new) result }
     {
         renewal.reach(clock.now());
         self.pass_moment(alloc, renewal.latest);
@@ -55,25 +52,11 @@ impl<O: OutLink + Drop, T> Server<O, T> {
         requires room { 65536 ≤ length buf.old }
         requires few { tally_in self.old + 131 < 2 ^ 50 }
         requires few_packets { (counts_in self.old).packets + 64 ≤ 2 ^ 46 }
-        ensures turns { TurnsSo rotate_ms (progress_in renewal.old) (progress_in renewal.new) self.old self.new
-            (devices_seen (C.given clock.old) (words_seen (W.given words.old) (W.faults words.old))
-            (link_seen (L.coming link.old) (L.tried link.old) (L.receive_faults link.old) (L.send_faults link.old))
-            (feed_seen (F.coming feed.old) (F.faults feed.old)) None 0)
-            (devices_seen (C.given clock.new) (words_seen (W.given words.new) (W.faults words.new))
-            (link_seen (L.coming link.new) (L.tried link.new) (L.receive_faults link.new) (L.send_faults link.new))
-            (feed_seen (F.coming feed.new) (F.faults feed.new)) None 0) result }
-        ensures causes { AreCausesOf result
-            (devices_seen (C.given clock.old) (words_seen (W.given words.old) (W.faults words.old))
-            (link_seen (L.coming link.old) (L.tried link.old) (L.receive_faults link.old) (L.send_faults link.old))
-            (feed_seen (F.coming feed.old) (F.faults feed.old)) None 0)
-            (devices_seen (C.given clock.new) (words_seen (W.given words.new) (W.faults words.new))
-            (link_seen (L.coming link.new) (L.tried link.new) (L.receive_faults link.new) (L.send_faults link.new))
-            (feed_seen (F.coming feed.new) (F.faults feed.new)) None 0) }
-        ensures link_waits { WaitsBriefly (L.longest_wait link.old) (L.longest_wait link.new) }
-        ensures feed_waits { WaitsBriefly (F.longest_wait feed.old) (F.longest_wait feed.new) }
-        ensures buffer { length buf.new ≡ length buf.old }
-        ensures few { tally_in self.new ≤ tally_in self.old + 131 }
-        ensures few_packets { (counts_in self.new).packets ≤ (counts_in self.old).packets + 64 }
+        ensures turns { TurnsSo rotate_ms (progress_in renewal.old) (progress_in renewal.new)
+            (world self.old (devices_seen (C.given clock.old) (words_at W.Words words.old) (link_at L.Link link.old) (feed_at F.Feed feed.old) None 0)
+            (L.longest_wait link.old) (F.longest_wait feed.old) (length buf.old))
+            (world self.new (devices_seen (C.given clock.new) (words_at W.Words words.new) (link_at L.Link link.new) (feed_at F.Feed feed.new) None 0)
+            (L.longest_wait link.new) (F.longest_wait feed.new) (length buf.new)) result }
     {
         self.begin_turn(alloc, rotate_ms, renewal, clock, words)?;
         self.hear(alloc, link, buf)?;
@@ -99,22 +82,11 @@ impl<O: OutLink + Drop, T> Server<O, T> {
         requires fresh { happenings_in self.old ≡ [] }
         requires uncounted { counts_in self.old ≡ no_counts }
         ensures few { tally_in self.new < 2 ^ 50 }
-        ensures runs { RunsSo plan.now self.old self.new
-            (devices_seen (C.given clock.old) (words_seen (W.given words.old) (W.faults words.old))
-            (link_seen (L.coming link.old) (L.tried link.old) (L.receive_faults link.old) (L.send_faults link.old))
-            (feed_seen (F.coming feed.old) (F.faults feed.old)) None 0)
-            (devices_seen (C.given clock.new) (words_seen (W.given words.new) (W.faults words.new))
-            (link_seen (L.coming link.new) (L.tried link.new) (L.receive_faults link.new) (L.send_faults link.new))
-            (feed_seen (F.coming feed.new) (F.faults feed.new)) None 0) result.0 result.1 }
-        ensures causes { EndsIn result.0
-            (devices_seen (C.given clock.old) (words_seen (W.given words.old) (W.faults words.old))
-            (link_seen (L.coming link.old) (L.tried link.old) (L.receive_faults link.old) (L.send_faults link.old))
-            (feed_seen (F.coming feed.old) (F.faults feed.old)) None 0)
-            (devices_seen (C.given clock.new) (words_seen (W.given words.new) (W.faults words.new))
-            (link_seen (L.coming link.new) (L.tried link.new) (L.receive_faults link.new) (L.send_faults link.new))
-            (feed_seen (F.coming feed.new) (F.faults feed.new)) None 0) }
-        ensures link_waits { WaitsBriefly (L.longest_wait link.old) (L.longest_wait link.new) }
-        ensures feed_waits { WaitsBriefly (F.longest_wait feed.old) (F.longest_wait feed.new) }
+        ensures runs { RunsSo plan.now
+            (world self.old (devices_seen (C.given clock.old) (words_at W.Words words.old) (link_at L.Link link.old) (feed_at F.Feed feed.old) None 0)
+            (L.longest_wait link.old) (F.longest_wait feed.old) (length buf.old))
+            (world self.new (devices_seen (C.given clock.new) (words_at W.Words words.new) (link_at L.Link link.new) (feed_at F.Feed feed.new) None 0)
+            (L.longest_wait link.new) (F.longest_wait feed.new) (length buf.new)) result.0 result.1 }
     {
         let mut renewal = Renewal::new();
         for done in 0..plan.turns {

@@ -36,11 +36,11 @@ returns-in-Err g c =
     }
 
 pub finish-ending-requires-clause-run : goal.finish-ending-requires-clause-run
-finish-ending-requires-clause-run g c = c.run-end.ensures.runs.goes.happens.same.same_tasks g.P.Spawner.task_of c.in-Ok-start.ensures.run
+finish-ending-requires-clause-run g c = c.run-end.ensures.runs.does.happens.same.same_tasks g.P.Spawner.task_of c.in-Ok-start.ensures.run
 
 pub finish-ending-requires-clause-room : goal.finish-ending-requires-clause-room
 finish-ending-requires-clause-room g c =
-    let same = ap length (c.run-end.ensures.runs.goes.happens.same.same_starts) in
+    let same = ap length (c.run-end.ensures.runs.does.happens.same.same_starts) in
     let were = ap length c.in-Ok-start.ensures.started.outs_are in
     let now = length-map (slots_in c.run-end.new.self) (λ slot. slot.first) in
     let outs = length-map (starts_in (slots_in c.in-Ok-start.server)) out_of in (
@@ -59,11 +59,11 @@ returns g c =
     let seen = outs_seen g.O.OutLink.tried g.O.OutLink.faults in record {
       serves = ∥∥₁_map
           (serves_run c.args.settings c.args.plan.now c.in-Ok.first c.args.outs _ drawn.words c.in-Ok-start.server c.run-end.new.self c.finish-ending.result c.run-end.result.0 c.run-end.result.1
-          _ _ _ _ _ _ _ _ _ four.0 four.1 drawn.given (is_quiet _ _ _ _ c.draw_secret.ensures.cause c.in-Ok.is) start.started c.run-end.ensures.runs c.run-end.ensures.causes
+          _ _ _ _ _ _ _ _ _ four.0 four.1 drawn.given (is_quiet _ _ _ _ c.draw_secret.ensures.cause c.in-Ok.is) start.started _ _ _ _ _ _ c.run-end.ensures.runs
           c.finish-ending.ensures.finishes c.requires.plan.some_turns c.requires.outs refl _ _
           (λ threads. subst (HaveStarted (length c.args.outs) (g.P.Spawner.starts c.args.spawner.now)) (sym c.finish-ending.ensures.starts) (start.workers threads))
           (λ idle. c.finish-ending.ensures.starts ∙ start.none_started idle) _ _ (c.finish-ending.ensures.faults ∙ start.quiet))
           (λ serves. reported _ _ _ _ _ _ _ _ _ _ _ (ap seen c.of.ensures.outs) c.of.ensures.views c.of.ensures.report serves);
-      link_waits = c.run-end.ensures.link_waits;
-      feed_waits = c.run-end.ensures.feed_waits;
+      link_waits = c.run-end.ensures.runs.does.link_waits;
+      feed_waits = c.run-end.ensures.runs.does.feed_waits;
     }

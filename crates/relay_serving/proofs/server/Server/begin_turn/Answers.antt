@@ -1,68 +1,41 @@
-use Rattle.std.{proofs.Common.{[], arith, ap, sym, ◌∙◌, refl, subst}, specs.Prelude.{Some}}
-use Rattle.amt_ports.proofs.Told.{AppendsAll-none}
-use Rattle.relay_machine.specs.declared.event.Event.TheVariants.{Rotate}
-use Rattle.relay_serving.{specs.{Servers.{HasEvents, counts_in}, Turns.{is_due, renewed_after, words_due}}, proofs.{Beginning.{begins, rotation-few, rotation-four}, Events.{HasEvents-none, HasRefused-same, IsAsBefore-same, tally_took}}}
+use Rattle.std.{proofs.Common.{[], ap, map, sym, subst, refl, ◌∙◌, arith}, specs.Prelude.{List, Some}}
+use Rattle.amt_ports.proofs.{EndCauses.{not_cause}, Told.{AppendsAll-none}}
+use Rattle.relay_machine.specs.declared.event.Event.{Event}
+use Rattle.relay_serving.{specs.{Happenings.{Took}, Traces.{ServerDoes, nothing}, Turns.{is_due, renewed_after, words_due}}, proofs.{Stages.{begins, rotation-few, rotation-four}, Traces.{Does-at, Does-none}}}
 use Rattle.relay_serving.proofs.server.Server.begin_turn.Goals as goal
 
-pub returns-in-Err-clause-begins : goal.returns-in-Err-clause-begins
-returns-in-Err-clause-begins g c =
+pub returns-in-Err : goal.returns-in-Err
+returns-in-Err g c =
     let rotate = c.args.rotate_ms in
     let now = c.reach.new.self.latest in
     let drawn = c.in-Err.ensures.drawn in
-    let moved = c.pass_moment.new.self in
-    begins _ _ _ _ _ _ _ _ _ _ _ now c.reach.ensures.latest c.now.ensures.given
-    (record {
-      moved = moved;
-      drawn = drawn.words;
-      words_gave = drawn.given;
-      is_begun = (ap (λ renewed. is_due rotate renewed now) (sym c.reach.ensures.renewed) ∙ sym c.pass.ensures.due ∙ c.if-pass.true, drawn.are);
-      passes = c.pass_moment.ensures.passes;
-      secret = subst (HasEvents moved moved) (sym (rotation-few drawn.words drawn.are)) (HasEvents-none moved moved (IsAsBefore-same moved));
-      same_counts = refl;
-      latest_is = c.pass.ensures.latest;
-      renewed_is = c.pass.ensures.renewed ∙ ap (λ renewed. Some (renewed_after rotate renewed now)) c.reach.ensures.renewed;
-    })
+    let due = ap (λ renewed. is_due rotate renewed now) (sym c.reach.ensures.renewed) ∙ sym c.pass.ensures.due ∙ c.if-pass.true in record {
+      begins = begins rotate _ _ _ _ now drawn.words c.reach.ensures.latest c.now.ensures.given c.pass_moment.ensures.passes drawn.given
+          (subst (λ (events : List Event). ServerDoes (record nothing { happened = map Took events; tally = 1 }) c.pass_moment.new.self c.pass_moment.new.self) (sym (rotation-few drawn.words drawn.are))
+          (λ around. Does-at (Does-none _) refl refl refl refl refl refl refl (omega arith) (omega arith)))
+          (record { rose = λ _. c.in-Err.ensures.cause.failed; calm = λ isnt. absurd (isnt refl) }) (refl, due, drawn.are)
+          (λ i. record { latest = c.pass.ensures.latest i; renewed = (c.pass.ensures.renewed ∙ ap (λ renewed. Some (renewed_after rotate renewed now)) c.reach.ensures.renewed) i });
+    }
 
-pub returns-in-Ok-clause-begins : goal.returns-in-Ok-clause-begins
-returns-in-Ok-clause-begins g c =
+pub returns-in-Ok : goal.returns-in-Ok
+returns-in-Ok g c =
     let rotate = c.args.rotate_ms in
     let now = c.reach.new.self.latest in
     let drawn = c.in-Ok.ensures.drawn in
-    let moved = c.pass_moment.new.self in
-    begins _ _ _ _ _ _ _ _ _ _ _ now c.reach.ensures.latest c.now.ensures.given
-    (record {
-      moved = moved;
-      drawn = drawn.words;
-      words_gave = drawn.given;
-      is_begun = drawn.are.1 ∙ ap words_due (sym (ap (λ renewed. is_due rotate renewed now) (sym c.reach.ensures.renewed) ∙ sym c.pass.ensures.due ∙ c.if-pass.true));
-      passes = c.pass_moment.ensures.passes;
-      secret = subst (HasEvents moved c.rotate.new.self) (rotation-four drawn.words _ drawn.are.1 drawn.are.0) c.rotate.ensures.events;
-      same_counts = c.rotate.ensures.counts;
-      latest_is = c.pass.ensures.latest;
-      renewed_is = c.pass.ensures.renewed ∙ ap (λ renewed. Some (renewed_after rotate renewed now)) c.reach.ensures.renewed;
-    })
+    let due = ap (λ renewed. is_due rotate renewed now) (sym c.reach.ensures.renewed) ∙ sym c.pass.ensures.due ∙ c.if-pass.true in record {
+      begins = begins rotate _ _ _ _ now drawn.words c.reach.ensures.latest c.now.ensures.given c.pass_moment.ensures.passes drawn.given
+          (subst (λ (events : List Event). ServerDoes (record nothing { happened = map Took events; tally = 1 }) c.pass_moment.new.self c.rotate.new.self) (rotation-four drawn.words _ drawn.are.1 drawn.are.0) c.rotate.ensures.takes)
+          (not_cause _ _ _ _ (λ is. cc) c.in-Ok.ensures.cause.quiet) (drawn.are.1 ∙ ap words_due (sym due))
+          (λ i. record { latest = c.pass.ensures.latest i; renewed = (c.pass.ensures.renewed ∙ ap (λ renewed. Some (renewed_after rotate renewed now)) c.reach.ensures.renewed) i });
+    }
 
-pub returns-in-Ok-clause-few : goal.returns-in-Ok-clause-few
-returns-in-Ok-clause-few g c =
-    let moved = c.pass_moment.new.self in
-    let after = c.rotate.new.self in
-    let more = tally_took moved after (Rotate c.in-Ok.secret) c.rotate.ensures.events (HasRefused-same (counts_in moved) (counts_in after) c.rotate.ensures.counts) in
-    omega (arith, more, c.pass_moment.ensures.few)
-
-pub returns-else-pass-clause-begins : goal.returns-else-pass-clause-begins
-returns-else-pass-clause-begins g c =
+pub returns-else-pass : goal.returns-else-pass
+returns-else-pass g c =
     let rotate = c.args.rotate_ms in
     let now = c.reach.new.self.latest in
-    let moved = c.pass_moment.new.self in
-    begins _ _ _ _ _ _ _ _ _ _ _ now c.reach.ensures.latest c.now.ensures.given
-    (record {
-      moved = moved;
-      drawn = [];
-      words_gave = AppendsAll-none _;
-      is_begun = ap words_due (sym (ap (λ renewed. is_due rotate renewed now) (sym c.reach.ensures.renewed) ∙ sym c.pass.ensures.due ∙ c.if-pass.false));
-      passes = c.pass_moment.ensures.passes;
-      secret = HasEvents-none moved moved (IsAsBefore-same moved);
-      same_counts = refl;
-      latest_is = c.pass.ensures.latest;
-      renewed_is = c.pass.ensures.renewed ∙ ap (λ renewed. Some (renewed_after rotate renewed now)) c.reach.ensures.renewed;
-    })
+    let due = ap (λ renewed. is_due rotate renewed now) (sym c.reach.ensures.renewed) ∙ sym c.pass.ensures.due ∙ c.if-pass.false in record {
+      begins = begins rotate _ _ _ _ now [] c.reach.ensures.latest c.now.ensures.given c.pass_moment.ensures.passes (AppendsAll-none _)
+          (λ around. Does-at (Does-none _) refl refl refl refl refl refl refl (omega arith) (omega arith))
+          (not_cause _ _ _ _ (λ is. cc) refl) (ap words_due (sym due))
+          (λ i. record { latest = c.pass.ensures.latest i; renewed = (c.pass.ensures.renewed ∙ ap (λ renewed. Some (renewed_after rotate renewed now)) c.reach.ensures.renewed) i });
+    }

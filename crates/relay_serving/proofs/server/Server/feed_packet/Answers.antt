@@ -1,8 +1,8 @@
-use Rattle.std.proofs.Common.{ℕ, [], ◌∷◌, ◌++◌, List, refl, sym, ap, subst, ◌∙◌}
+use Rattle.std.proofs.{Common.{ℕ, [], ◌∷◌, ◌++◌, List, refl, sym, ap, subst, ◌∙◌, arith}, lemmas.Result.{err_from_is_err_and}}
 use Rattle.published_table.specs.Publishers.{book_of, published}
 use Rattle.relay_machine.specs.{Answers.{RelayAt, outcome_of, settings_of}, Published.{published_log}, declared.event.Event.{Event, TheVariants.{Packet}}}
 use Rattle.replication_workers.specs.Dispatchers.{slots_of}
-use Rattle.relay_serving.{specs.{Courses.{events_so_far, happenings_so_far}, GivenOut.{starts_in}, Happenings.{Took}}, proofs.{Counting.{IsCounted-then}, Entering.{shown-next}, Happenings.{events-next}, GivenOut.{few-given, given_out-packet, of_publisher-put, starts_in-put}, Packets.{RelayAt-packet, counted-packet, outcome-plain, published_log-packet}}}
+use Rattle.relay_serving.{specs.{Courses.{events_so_far, happenings_so_far}, GivenOut.{starts_in}, Happenings.{Took}, declared.counts.Counts.{Counts}}, proofs.{Answering.{no_more}, Counting.{IsCounted-then}, Entering.{shown-next}, Happenings.{events-next}, GivenOut.{few-given, given_out-packet, of_publisher-put, starts_in-put}, Packets.{RelayAt-packet, counted-packet, outcome-plain, published_log-packet}, Traces.{Adds, Does-none, server_does}}}
 use Rattle.relay_serving.proofs.server.Server.feed_packet.Goals as goal
 
 pub send-requires-clause-few : goal.send-requires-clause-few
@@ -39,9 +39,16 @@ invariant_of-self g c =
           (c.count_packet.ensures ∙ counted-packet server.counts bytes outcome (outcome-plain settings first events bytes)) server.counted;
     }
 
-pub returns-clause-events : goal.returns-clause-events
-returns-clause-events g c =
-    let server = c.args.self.now in record {
+pub returns-in_err-packet-clause-none : goal.returns-in_err-packet-clause-none
+returns-in_err-packet-clause-none g c =
+    let p = err_from_is_err_and c.from_residual.result c.from_residual.ensures.1 in
+    rw p.1 (λ around. Does-none _)
+
+pub returns-clause-takes : goal.returns-clause-takes
+returns-clause-takes g c =
+    let server = c.args.self.now in
+    server_does (Took (Packet c.args.packet.now) ∷ []) 0 0 1 1
+    (record {
       same = record {
         same_settings = refl;
         same_first = refl;
@@ -51,4 +58,6 @@ returns-clause-events g c =
         same_tasks = c.send.ensures.run;
       };
       happened = c.fed.ensures ∙ ap (λ (bytes : List ℕ). happenings_so_far server.course ++ Took (Packet bytes) ∷ []) c.in_ok-packet.ensures;
-    }
+    })
+    (subst (λ (counts : Counts). Adds server.counts counts 0 0 1) (sym c.count_packet.ensures)
+    (record { refused = record { starved_are = no_more _; late_are = no_more _ }; same_sent = refl; same_unsent = refl; few_packets = omega arith })) refl (omega arith)

@@ -1,21 +1,13 @@
-use Rattle.std.proofs.Common.{true, ap, arith}
-use Rattle.relay_machine.specs.declared.event.Event.TheVariants.{Moment}
-use Rattle.relay_serving.{specs.{Servers.{counts_in}, declared.counts.Counts.{Counts}}, proofs.Events.{HasEvents-starved, HasRefused-none, HasRefused-starved, IsStarved-then, SendsAlike-starved, tally_took}}
+use Rattle.std.proofs.Common.{true, false, [], ◌∷◌, refl, arith}
+use Rattle.relay_machine.specs.{Answers.{outcome_of}, declared.event.Event.TheVariants.{Moment}}
+use Rattle.relay_serving.{specs.{Happenings.{Took}, Servers.{events_in, first_in, settings_in}}, proofs.Traces.{Does-then, adds_outcome, nothing_does, server_does}}
 use Rattle.relay_serving.proofs.server.Server.pass_moment.Goals as goal
 
-pub returns-in-Ok-clause-few : goal.returns-in-Ok-clause-few
-returns-in-Ok-clause-few g c =
-    let before = c.args.self.now in
-    let after = c.enter.new.self in
-    let counted = c.in-Ok.ensures.counts in
-    let none = HasRefused-none (counts_in before) (counts_in after) (ap (λ (counts : Counts). counts.starved) counted) (ap (λ (counts : Counts). counts.late) counted) in
-    let more = tally_took before after (Moment c.args.at) c.in-Ok.ensures.events none in omega (arith, more)
+pub returns-in-Ok : goal.returns-in-Ok
+returns-in-Ok g c =
+    let event = Moment c.args.at in
+    let outcome = outcome_of (settings_in c.args.self.now) (first_in c.args.self.now) (events_in c.args.self.now) event in
+    record { passes = (false, server_does (Took event ∷ []) 0 0 1 0 c.in-Ok.ensures.events (adds_outcome _ _ event outcome c.in-Ok.ensures.counts refl) refl (omega arith)) }
 
-pub returns-clause-passes : goal.returns-clause-passes
-returns-clause-passes g c =
-    let starved = IsStarved-then c.args.self.now c.enter.new.self c.starve.new.self c.in-Err.ensures.err c.starve.ensures in record {
-      starved = true;
-      events = HasEvents-starved _ _ starved;
-      refused = HasRefused-starved _ _ starved;
-      alike = SendsAlike-starved _ _ starved;
-    }
+pub returns : goal.returns
+returns g c = record { passes = (true, λ around. Does-then (nothing_does c.in-Err.ensures.err around) (c.starve.ensures.starves around)) }

@@ -1,10 +1,10 @@
-use Rattle.std.proofs.Common.{◌∙◌, ◌++◌, List, length, refl, sym, ap, subst, append-nil, arith}
+use Rattle.std.proofs.Common.{◌∙◌, ◌++◌, ◌∷◌, [], List, refl, sym, ap, subst, append-nil, arith}
 use Rattle.endpoint_membership.specs.declared.change.Change.{Change}
 use Rattle.logbook.specs.Pages.{Book}
 use Rattle.published_table.specs.Publishers.{published}
 use Rattle.relay_machine.specs.{Answers.{RelayAt, settings_of}, Published.{published_log}, declared.event.Event.{Event}}
 use Rattle.replication_workers.specs.Dispatchers.{slots_of}
-use Rattle.relay_serving.{specs.{Counting.{IsCounted}, Courses.{events_so_far, happenings_so_far}, GivenOut.{AreOfPublisher}, Happenings.{Published}, Servers.{happenings_in}, Turns.{Done, Refused}, declared.counts.Counts.{Counts}}, proofs.{Answering.{no_more}, Counting.{IsCounted-late}, Entering.{given_out-other}, Events.{HasRefused-same}, Happenings.{events-shown, published-shown}}}
+use Rattle.relay_serving.{specs.{Counting.{IsCounted}, Courses.{events_so_far, happenings_so_far}, GivenOut.{AreOfPublisher}, Happenings.{Published}, Servers.{counts_in, happenings_in}, Turns.{Done, Refused}, declared.counts.Counts.{Counts}}, proofs.{Answering.{no_more}, Counting.{IsCounted-late}, Entering.{given_out-other}, Happenings.{events-shown, published-shown}, Traces.{Adds, adds_none, server_does}}}
 use Rattle.relay_serving.proofs.server.Server.publish.Goals as goal
 
 pub invariant_of-self : goal.invariant_of-self
@@ -42,39 +42,29 @@ invariant_of-self-in-Err g c =
       counted = IsCounted-late (settings_of server.relay) server.first.value (events_so_far server.course) server.counts c.count_late.new.self c.count_late.ensures server.counted;
     }
 
-pub returns-in-Ok-clause-publishes : goal.returns-in-Ok-clause-publishes
-returns-in-Ok-clause-publishes g c = record {
-  publishing = Done;
-  tried = λ is. cc is;
-  owed = λ is. cc is;
-  happens = record {
-    same = record { same_settings = refl; same_first = refl; same_starts = refl; same_book = c.publish_owed.ensures.same.book; same_mode = refl; same_tasks = λ task_of run. run };
-    happened = c.shown.ensures;
+pub returns-in-Ok : goal.returns-in-Ok
+returns-in-Ok g c = record {
+  publishes = record {
+    publishing = Done;
+    tried = λ is. cc is;
+    owed = λ is. cc is;
+    does = server_does (Published ∷ []) 0 0 1 0
+        (record { same = record { same_settings = refl; same_first = refl; same_starts = refl; same_book = c.publish_owed.ensures.same.book; same_mode = refl; same_tasks = λ task_of run. run }; happened = c.shown.ensures }) (adds_none c.args.self.now.counts) refl (omega arith);
   };
-  refused = HasRefused-same c.args.self.now.counts c.args.self.now.counts refl;
-  alike = record { same_packets = refl; same_sent = refl; same_unsent = refl };
 }
 
-pub returns-in-Ok-clause-few : goal.returns-in-Ok-clause-few
-returns-in-Ok-clause-few g c =
-    let same = ap length (events-shown (happenings_in c.args.self.now) (happenings_so_far c.shown.result) c.shown.ensures) in omega (arith, same)
-
-pub returns-in-Err-clause-publishes : goal.returns-in-Err-clause-publishes
-returns-in-Err-clause-publishes g c = record {
-  publishing = Refused;
-  tried = λ is. cc is;
-  owed = λ _. c.in-Err.ensures.owed;
-  happens = record {
-    same = record { same_settings = refl; same_first = refl; same_starts = refl; same_book = c.publish_owed.ensures.same.book; same_mode = refl; same_tasks = λ task_of run. run };
-    happened = sym (append-nil (happenings_in c.args.self.now));
-  };
-  refused = record {
-    starved_are = ap (λ (counts : Counts). counts.starved) c.count_late.ensures ∙ no_more c.args.self.now.counts.starved;
-    late_are = ap (λ (counts : Counts). counts.late) c.count_late.ensures;
-  };
-  alike = record {
-    same_packets = ap (λ (counts : Counts). counts.packets) c.count_late.ensures;
-    same_sent = ap (λ (counts : Counts). counts.sent) c.count_late.ensures;
-    same_unsent = ap (λ (counts : Counts). counts.unsent) c.count_late.ensures;
+pub returns-in-Err : goal.returns-in-Err
+returns-in-Err g c = record {
+  publishes = record {
+    publishing = Refused;
+    tried = λ is. cc is;
+    owed = λ _. c.in-Err.ensures.owed;
+    does = server_does [] 0 1 1 0
+        (record {
+          same = record { same_settings = refl; same_first = refl; same_starts = refl; same_book = c.publish_owed.ensures.same.book; same_mode = refl; same_tasks = λ task_of run. run };
+          happened = sym (append-nil (happenings_in c.args.self.now));
+        })
+        (subst (λ (counts : Counts). Adds (counts_in c.args.self.now) counts 0 1 0) (sym c.count_late.ensures)
+        (record { refused = record { starved_are = no_more _; late_are = refl }; same_sent = refl; same_unsent = refl; few_packets = omega arith })) refl (omega arith);
   };
 }

@@ -1,8 +1,8 @@
-use Rattle.std.{proofs.Common.{◌++◌, refl, sym, ap, subst, ◌∙◌}, specs.Prelude.{None}}
+use Rattle.std.{proofs.Common.{◌++◌, ◌∷◌, [], refl, sym, ap, subst, ◌∙◌, arith}, specs.Prelude.{None}}
 use Rattle.published_table.specs.Publishers.{owing, published}
 use Rattle.relay_machine.specs.{Answers.{settings_of}, Settings.{AreLawfulSettings}, declared.{event.Event.TheVariants.{Rotate}, outcome.Outcome.TheVariants.{Rotated}, settings.Settings.{Settings}}}
 use Rattle.replication_workers.specs.Dispatchers.{slots_of}
-use Rattle.relay_serving.{specs.{Courses.{events_so_far, happenings_so_far}, GivenOut.{terms_by}, Happenings.{Took}}, proofs.{Counting.{IsCounted-then, secret-uncounted}, Entering.{at-next, given_out-other, log-next, shown-next}, Happenings.{events-next}}}
+use Rattle.relay_serving.{specs.{Courses.{events_so_far, happenings_so_far}, GivenOut.{terms_by}, Happenings.{Took}}, proofs.{Counting.{IsCounted-then, secret-uncounted}, Entering.{at-next, given_out-other, log-next, shown-next}, Happenings.{events-next}, Traces.{adds_none, server_does}}}
 use Rattle.relay_serving.proofs.server.Server.rotate.Goals as goal
 
 pub invariant_of-self : goal.invariant_of-self
@@ -26,3 +26,10 @@ invariant_of-self g c =
       publishers = server.publishers;
       counted = IsCounted-then settings (settings_of c.step.new.self) first events (events_so_far c.then.result) event Rotated server.counts server.counts same next refl (secret-uncounted server.counts c.args.secret) server.counted;
     }
+
+pub returns : goal.returns
+returns g c = record {
+  takes = server_does (Took (Rotate c.args.secret) ∷ []) 0 0 1 0
+      (record { same = record { same_settings = c.step.ensures.settings; same_first = refl; same_starts = refl; same_book = refl; same_mode = refl; same_tasks = λ task_of run. run }; happened = c.then.ensures })
+      (adds_none c.args.self.now.counts) refl (omega arith);
+}
