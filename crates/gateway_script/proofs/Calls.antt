@@ -3,7 +3,7 @@ use Rattle.std.proofs.Common.{◌≡◌, ℕ, List, [], ◌∷◌, Option, Some,
 use Rattle.amt_values.specs.{Conditions.{First}, declared.address.Ip.{Ip}}
 use Rattle.source_filter.specs.declared.mode.Mode.{Mode}
 use Rattle.group_records.specs.declared.family.Family.{Family}
-use Rattle.script_lines.specs.{declared.{reason.Reason.{Reason}, fault.LineError.{LineError, TheVariants.{Bad, Memory}}}, Form.{Fails, IsModeText, IsName, a_group, a_mode, a_name, an_address_of}, Reading.{FailsFirst}, Shape.{HasOtherCount, SomeFails}}
+use Rattle.script_lines.specs.{declared.{reason.Reason.{Reason}, fault.LineError.{LineError, TheVariants.{Bad, Memory}}}, Form.{Fails, Form, IsModeText, IsName, a_group, a_mode, a_name, an_address_of}, Reading.{FailsFirst}, Shape.{HasOtherCount, SomeFails}}
 use Rattle.script_lines.specs.declared.reason.Reason.TheVariants as reasons
 use Rattle.gateway_script.{specs.{declared.kind.LineKind.TheVariants.{Change, Open}, Fault.{FailsAs, order_of_values}, Reading.{FailsInSources}, Says.{AreAddressTexts}}, proofs.Fields.{addresses_fit}}
 
@@ -15,36 +15,24 @@ after_hex = reasons.Address ∷ reasons.Peer ∷ reasons.Name ∷ reasons.Mode �
 abbrev after_peer : List Reason
 after_peer = reasons.Name ∷ reasons.Mode ∷ reasons.Group ∷ reasons.Range ∷ []
 
+-- no field fails for this reason, by what is known of each, and of those that are repeated
+abbrev NoneFails : List Form → Option Form → List (List ℕ) → Reason → Type 0
+NoneFails [] repeated texts reason = SomeFails [] repeated texts reason → ⊥
+NoneFails (form ∷ forms) repeated [] reason = Unit {0}
+NoneFails (form ∷ forms) repeated (text ∷ texts) reason = (Fails form text reason → ⊥) × NoneFails forms repeated texts reason
+
+none_fails : (forms : List Form) (repeated : Option Form) (texts : List (List ℕ)) (reason : Reason) → NoneFails forms repeated texts reason → SomeFails forms repeated texts reason → ⊥
+none_fails [] repeated texts reason none fails = none fails
+none_fails (form ∷ forms) repeated [] reason none fails = fails
+none_fails (form ∷ forms) repeated (text ∷ texts) reason none (inl here) = none.0 here
+none_fails (form ∷ forms) repeated (text ∷ texts) reason none (inr later) = none_fails forms repeated texts reason none.1 later
+
 -- no address fails for this reason
 addresses_pass : (family : Option Family) (texts : List (List ℕ)) (reason : Reason) → ((text : List ℕ) → Fails (an_address_of family) text reason → ⊥)
     → SomeFails [] (Some (an_address_of family)) texts reason → ⊥
 addresses_pass family [] reason each fails = fails
 addresses_pass family (text ∷ texts) reason each (inl here) = each text here
 addresses_pass family (text ∷ texts) reason each (inr later) = addresses_pass family texts reason each later
-
--- no field of a filter fails for this reason
-filter_passes : (family : Option Family) (mode : List ℕ) (texts : List (List ℕ)) (reason : Reason) → (Fails a_mode mode reason → ⊥)
-    → (SomeFails [] (Some (an_address_of family)) texts reason → ⊥) → SomeFails (a_mode ∷ []) (Some (an_address_of family)) (mode ∷ texts) reason → ⊥
-filter_passes family mode texts reason mode_passes others (inl here) = mode_passes here
-filter_passes family mode texts reason mode_passes others (inr later) = others later
-
-group_passes : (family : Option Family) (group mode : List ℕ) (texts : List (List ℕ)) (reason : Reason) → (Fails (a_group family) group reason → ⊥)
-    → (Fails a_mode mode reason → ⊥) → (SomeFails [] (Some (an_address_of family)) texts reason → ⊥)
-    → SomeFails (a_group family ∷ a_mode ∷ []) (Some (an_address_of family)) (group ∷ mode ∷ texts) reason → ⊥
-group_passes family group mode texts reason joins mode_passes others (inl here) = joins here
-group_passes family group mode texts reason joins mode_passes others (inr later) = filter_passes family mode texts reason mode_passes others later
-
-open_passes : (family : Option Family) (name group mode : List ℕ) (texts : List (List ℕ)) (reason : Reason) → (Fails a_name name reason → ⊥)
-    → (Fails (a_group family) group reason → ⊥) → (Fails a_mode mode reason → ⊥) → (SomeFails [] (Some (an_address_of family)) texts reason → ⊥)
-    → SomeFails (a_name ∷ a_group family ∷ a_mode ∷ []) (Some (an_address_of family)) (name ∷ group ∷ mode ∷ texts) reason → ⊥
-open_passes family name group mode texts reason names joins mode_passes others (inl here) = names here
-open_passes family name group mode texts reason names joins mode_passes others (inr later) = group_passes family group mode texts reason joins mode_passes others later
-
-change_passes : (family : Option Family) (name mode : List ℕ) (texts : List (List ℕ)) (reason : Reason) → (Fails a_name name reason → ⊥)
-    → (Fails a_mode mode reason → ⊥) → (SomeFails [] (Some (an_address_of family)) texts reason → ⊥)
-    → SomeFails (a_name ∷ a_mode ∷ []) (Some (an_address_of family)) (name ∷ mode ∷ texts) reason → ⊥
-change_passes family name mode texts reason names mode_passes others (inl here) = names here
-change_passes family name mode texts reason names mode_passes others (inr later) = filter_passes family mode texts reason mode_passes others later
 
 module _ (family : Option Family) (values : List (List ℕ)) (name group mode : List ℕ) (texts : List (List ℕ)) (parts : values ≡ name ∷ group ∷ mode ∷ texts) where
   abbrev OpenFails : Reason → Type 0
@@ -60,7 +48,7 @@ module _ (family : Option Family) (values : List (List ℕ)) (name group mode : 
       → ((text : List ℕ) → Fails (an_address_of family) text reason → ⊥)
       → SomeFails (a_name ∷ a_group family ∷ a_mode ∷ []) (Some (an_address_of family)) (name ∷ group ∷ mode ∷ texts) reason → ⊥
   open_other reason names joins mode_passes each fails =
-      open_passes family name group mode texts reason names joins mode_passes (addresses_pass family texts reason each) fails
+      none_fails (a_name ∷ a_group family ∷ a_mode ∷ []) _ (name ∷ group ∷ mode ∷ texts) reason (names, (joins, (mode_passes, addresses_pass family texts reason each))) fails
 
   open_values : (reason : Reason) → First (FailsAs family Open (name ∷ group ∷ mode ∷ texts)) after_hex reason
       → First (FailsAs family Open (name ∷ group ∷ mode ∷ texts)) order_of_values reason
@@ -82,15 +70,12 @@ module _ (family : Option Family) (values : List (List ℕ)) (name group mode : 
   open_sources Memory fails = tt
 
   module _ (sources : List Ip) (addresses : AreAddressTexts family sources texts) where
-    open_read : SomeFails [] (Some (an_address_of family)) texts reasons.Address → ⊥
-    open_read fails = addresses_fit family sources texts addresses reasons.Address fails
-
     open_fields : (reason : Reason) → First (FailsAs family Open (name ∷ group ∷ mode ∷ texts)) after_peer reason
         → First (FailsAs family Open (name ∷ group ∷ mode ∷ texts)) order_of_values reason
     open_fields reason first =
         open_values reason (
         inr (
-          open_passes family name group mode texts reasons.Address (λ h. h) (λ h. h) (λ h. h) open_read,
+          none_fails (a_name ∷ a_group family ∷ a_mode ∷ []) _ (name ∷ group ∷ mode ∷ texts) reasons.Address ((λ h. h), ((λ h. h), ((λ h. h), addresses_fit family sources texts addresses reasons.Address))),
           inr (open_other reasons.Peer (λ h. h) (λ h. h) (λ h. h) (λ text h. h), first),
         )
         )
@@ -129,7 +114,8 @@ module _ (family : Option Family) (values : List (List ℕ)) (name mode : List �
 
   change_other : (reason : Reason) → (Fails a_name name reason → ⊥) → (Fails a_mode mode reason → ⊥) → ((text : List ℕ) → Fails (an_address_of family) text reason → ⊥)
       → SomeFails (a_name ∷ a_mode ∷ []) (Some (an_address_of family)) (name ∷ mode ∷ texts) reason → ⊥
-  change_other reason names mode_passes each fails = change_passes family name mode texts reason names mode_passes (addresses_pass family texts reason each) fails
+  change_other reason names mode_passes each fails =
+      none_fails (a_name ∷ a_mode ∷ []) _ (name ∷ mode ∷ texts) reason (names, (mode_passes, addresses_pass family texts reason each)) fails
 
   change_values : (reason : Reason) → First (FailsAs family Change (name ∷ mode ∷ texts)) after_hex reason
       → First (FailsAs family Change (name ∷ mode ∷ texts)) order_of_values reason
@@ -151,15 +137,12 @@ module _ (family : Option Family) (values : List (List ℕ)) (name mode : List �
   change_sources Memory fails = tt
 
   module _ (sources : List Ip) (addresses : AreAddressTexts family sources texts) where
-    change_read : SomeFails [] (Some (an_address_of family)) texts reasons.Address → ⊥
-    change_read fails = addresses_fit family sources texts addresses reasons.Address fails
-
     change_fields : (reason : Reason) → First (FailsAs family Change (name ∷ mode ∷ texts)) after_peer reason
         → First (FailsAs family Change (name ∷ mode ∷ texts)) order_of_values reason
     change_fields reason first =
         change_values reason (
         inr (
-          change_passes family name mode texts reasons.Address (λ h. h) (λ h. h) change_read,
+          none_fails (a_name ∷ a_mode ∷ []) _ (name ∷ mode ∷ texts) reasons.Address ((λ h. h), ((λ h. h), addresses_fit family sources texts addresses reasons.Address)),
           inr (change_other reasons.Peer (λ h. h) (λ h. h) (λ text h. h), first),
         )
         )

@@ -3,7 +3,7 @@ use Rattle.std.{proofs.Common.{◌≡◌, ℕ, ◌⊎◌, ◌↔◌, List, [], �
 use Rattle.amt_values.specs.Conditions.{First}
 use Rattle.group_records.specs.declared.family.Family.{Family}
 use Rattle.gateway_machine.specs.declared.event.GatewayEvent.{GatewayEvent}
-use Rattle.script_lines.{specs.{declared.{fault.LineError.{LineError, TheVariants.{Bad, Memory}}, reason.Reason.{Reason}}, Form.{Form, Fails, a_group, a_mode, a_moment, a_name, a_nonce, a_number, a_peer, an_address, an_address_of, some_octets}, Reading.{FailsFirst}, Shape.{SomeFails}}, proofs.Firsts.{First-same}}
+use Rattle.script_lines.{specs.{declared.{fault.LineError.{LineError, TheVariants.{Bad, Memory}}, reason.Reason.{Reason}}, Form.{Form, Fails, a_group, a_mode, a_moment, a_name, a_nonce, a_peer, an_address_of, some_octets}, Reading.{FailsFirst}, Shape.{SomeFails}}, proofs.Firsts.{First-same}}
 use Rattle.script_lines.specs.declared.reason.Reason.TheVariants as reasons
 use Rattle.gateway_script.{specs.{declared.{kind.{Key.{Key}, LineKind.{LineKind}}, setting.Setting.{Setting}}, Fault.{FailsAfter, FailsAs, FailsInKind, order_of_values, order_of_reasons}, Reading.{FailsToSet, IsEventKind}, Row.{form_of_key, words_of, IsUnknown}, Setting.{set_at}, Settling.{family_given}}, proofs.Rows.{same_kind, same_values}}
 use Rattle.gateway_script.specs.declared.kind.Key.TheVariants as keys
@@ -20,15 +20,23 @@ in_kind : (family : Option Family) (kind : LineKind) (values line : List (List �
     → FailsAs family kind values reason ↔ FailsInKind family line reason
 in_kind family kind values line reason parts = (λ h. (kind, values, parts, h), fails_as family kind values line reason parts)
 
+-- what holds of each reason does of those in an order
+pub each_of : {R : Type 0} (P : R → Type 0) (order : List R) → ((reason : R) → P reason) → AllByRecursion P order
+each_of P [] each = tt
+each_of P (next ∷ more) each = (each next, each_of P more each)
+
+-- the reasons after that of the number of fields
+abbrev pub order_of_fields : List Reason
+order_of_fields = reasons.Number ∷ reasons.Hex ∷ reasons.Address ∷ reasons.Peer ∷ reasons.Name ∷ reasons.Mode ∷ reasons.Group ∷ reasons.Range ∷ []
+
+-- a field fails for the same reasons whether the kind is given or told by the line
+fields_fail : (family : Option Family) (kind : LineKind) (values line : List (List ℕ)) → line ≡ words_of kind ++ values
+    → AllByRecursion (λ reason. FailsAs family kind values reason ↔ FailsInKind family line reason) order_of_fields
+fields_fail family kind values line parts = each_of (λ reason. FailsAs family kind values reason ↔ FailsInKind family line reason) order_of_fields (λ reason. in_kind family kind values line reason parts)
+
 pub no_set_alone : (kind : LineKind) (values line : List (List ℕ)) → line ≡ words_of kind ++ values → line ≡ codes "set" ∷ [] → ⊥
 no_set_alone (kinds.Set key) values line parts alone = cc (sym alone ∙ parts)
-no_set_alone kinds.Moment values line parts alone = cc (sym alone ∙ parts)
-no_set_alone kinds.Nonce values line parts alone = cc (sym alone ∙ parts)
-no_set_alone kinds.Datagram values line parts alone = cc (sym alone ∙ parts)
-no_set_alone kinds.Open values line parts alone = cc (sym alone ∙ parts)
-no_set_alone kinds.Change values line parts alone = cc (sym alone ∙ parts)
-no_set_alone kinds.Close values line parts alone = cc (sym alone ∙ parts)
-no_set_alone kinds.Leave values line parts alone = cc (sym alone ∙ parts)
+no_set_alone kind values line parts alone = cc (sym alone ∙ parts)
 
 counted : (family : Option Family) (kind : LineKind) (values line : List (List ℕ)) → line ≡ words_of kind ++ values
     → (line ≡ codes "set" ∷ []) ⊎ FailsInKind family line reasons.Count → FailsAs family kind values reasons.Count
@@ -40,28 +48,8 @@ pub values_judged : (given : List Setting) (events : List GatewayEvent) (line : 
     → First (FailsAfter given events line) order_of_values reason
 values_judged given events line kind values reason parts first =
     let family = family_given given in
-    First-same (FailsAs family kind values) (FailsAfter given events line) order_of_values reason (
-      (λ h. inr (kind, values, parts, h), counted family kind values line parts),
-      (
-        in_kind family kind values line reasons.Number parts,
-        (
-          in_kind family kind values line reasons.Hex parts,
-          (
-            in_kind family kind values line reasons.Address parts,
-            (
-              in_kind family kind values line reasons.Peer parts,
-              (
-                in_kind family kind values line reasons.Name parts,
-                (
-                  in_kind family kind values line reasons.Mode parts,
-                  (in_kind family kind values line reasons.Group parts, (in_kind family kind values line reasons.Range parts, tt)),
-                ),
-              ),
-            ),
-          ),
-        ),
-      ),
-    ) first
+    First-same (FailsAs family kind values) (FailsAfter given events line) order_of_values reason
+    ((λ h. inr (kind, values, parts, h), counted family kind values line parts), fields_fail family kind values line parts) first
 
 -- a text of the form is never an unknown word
 abbrev pub NeverWord : Form → Type 0
@@ -92,11 +80,7 @@ pub setting_word : (key : Key) (values : List (List ℕ))
     → (key ≡ keys.Discovery) ⊎ ((key ≡ keys.Source) ⊎ ((key ≡ keys.Relay) ⊎ ((key ≡ keys.Port) ⊎ (key ≡ keys.Nonce))))
     → SomeFails (form_of_key key ∷ []) None values reasons.Word → ⊥
 setting_word keys.Family values other fails = no_family other
-setting_word keys.Discovery values other fails = some_word (a_peer ∷ []) None values (λ text h. h, tt) tt fails
-setting_word keys.Source values other fails = some_word (an_address ∷ []) None values (λ text h. h, tt) tt fails
-setting_word keys.Relay values other fails = some_word (a_peer ∷ []) None values (λ text h. h, tt) tt fails
-setting_word keys.Port values other fails = some_word (a_number 0 65535 ∷ []) None values (λ text h. h, tt) tt fails
-setting_word keys.Nonce values other fails = some_word (a_nonce ∷ []) None values (λ text h. h, tt) tt fails
+setting_word key values other fails = some_word (form_of_key key ∷ []) None values (λ text h. h, tt) tt fails
 
 -- no field of an event is an unknown word
 event_word : (family : Option Family) (kind : LineKind) (values : List (List ℕ)) → IsEventKind kind → FailsAs family kind values reasons.Word → ⊥
@@ -119,13 +103,7 @@ no_word family line kind values parts (inr fails) = fails_as family kind values 
 
 pub no_late : (kind : LineKind) (values line rest : List (List ℕ)) → IsEventKind kind → line ≡ words_of kind ++ values → line ≡ codes "set" ∷ rest → ⊥
 no_late (kinds.Set key) values line rest event parts set = event
-no_late kinds.Moment values line rest event parts set = cc (sym set ∙ parts)
-no_late kinds.Nonce values line rest event parts set = cc (sym set ∙ parts)
-no_late kinds.Datagram values line rest event parts set = cc (sym set ∙ parts)
-no_late kinds.Open values line rest event parts set = cc (sym set ∙ parts)
-no_late kinds.Change values line rest event parts set = cc (sym set ∙ parts)
-no_late kinds.Close values line rest event parts set = cc (sym set ∙ parts)
-no_late kinds.Leave values line rest event parts set = cc (sym set ∙ parts)
+no_late kind values line rest event parts set = cc (sym set ∙ parts)
 
 pub no_key : (kind : LineKind) (values line : List (List ℕ)) (key : Key) (others : List (List ℕ)) → IsEventKind kind → line ≡ words_of kind ++ values
     → line ≡ words_of (kinds.Set key) ++ others → ⊥
@@ -176,28 +154,7 @@ setting_judged given events line key values reason parts first =
         (λ late. (late, _, parts), λ late. late.0),
         (
           (λ twice. (key, values, parts, twice), λ twice. twice_at given line key values parts twice.0 twice.1 twice.2 twice.3),
-          (
-            (λ h. inr (kind, values, parts, h), counted family kind values line parts),
-            (
-              in_kind family kind values line reasons.Number parts,
-              (
-                in_kind family kind values line reasons.Hex parts,
-                (
-                  in_kind family kind values line reasons.Address parts,
-                  (
-                    in_kind family kind values line reasons.Peer parts,
-                    (
-                      in_kind family kind values line reasons.Name parts,
-                      (
-                        in_kind family kind values line reasons.Mode parts,
-                        (in_kind family kind values line reasons.Group parts, (in_kind family kind values line reasons.Range parts, tt)),
-                      ),
-                    ),
-                  ),
-                ),
-              ),
-            ),
-          ),
+          ((λ h. inr (kind, values, parts, h), counted family kind values line parts), fields_fail family kind values line parts),
         ),
       ),
     ) first

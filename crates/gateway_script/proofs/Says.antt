@@ -1,13 +1,14 @@
 -- What a line says fits the kind of the line.
-use Rattle.std.proofs.Common.{◌≡◌, ◌≤◌, ℕ, List, [], ◌∷◌, ◌++◌, length, Option, Some, inl, inr, sym, ap, subst, ◌∙◌, arith}
+use Rattle.std.proofs.Common.{◌≡◌, ◌≤◌, ℕ, List, [], ◌∷◌, ◌++◌, length, Option, Some, inl, inr, refl, sym, ap, subst, ◌∙◌, arith}
 use Rattle.amt_values.specs.declared.address.Ip.{Ip}
 use Rattle.group_records.specs.declared.family.Family.{Family}
 use Rattle.source_filter.specs.Filter.{FilterValue}
 use Rattle.gateway_machine.specs.declared.event.GatewayEvent.{GatewayEvent}
 use Rattle.gateway_machine.specs.declared.event.GatewayEvent.TheVariants as events
-use Rattle.script_lines.{specs.{declared.reason.Reason.{Reason}, Form.{Form, Fails, a_family, a_group, a_mode, a_moment, a_name, a_nonce, a_number, a_peer, an_address, an_address_of, some_octets}, Shape.{FailsIn, SomeFails}}, proofs.Forms.{moment_fits, number_fits, octets_fit, address_fits as any_address_fits, peer_fits, none_fits, one_fits, two_fit}}
+use Rattle.script_lines.{specs.{declared.reason.Reason.{Reason}, Form.{Form, Fails, IsNumberText, a_family, a_group, a_mode, a_moment, a_name, a_nonce, a_number, a_peer, an_address, an_address_of, some_octets}, Shape.{FailsIn, HasField, Shape, SomeFails}}, proofs.Forms.{moment_fits, number_fits, octets_fit, address_fits as any_address_fits, peer_fits, none_fits, one_fits, two_fit}}
 use Rattle.script_lines.specs.declared.reason.Reason.TheVariants as reasons
-use Rattle.gateway_script.{specs.{declared.{kind.LineKind.{LineKind}, setting.Setting.{Setting}}, Fault.{FailsAs}, Reading.{IsEventKind}, Row.{words_of}, Says.{SaysEvent, SaysFilter, SaysMembership, SaysNamed, SaysSetting}, Setting.{key_of}}, proofs.{Fields.{addresses_fit, family_fits, group_fits, mode_fits, name_fits, nonce_fits}, Rows.{same_kind}}}
+use Rattle.gateway_script.{specs.{declared.{kind.LineKind.{LineKind}, setting.Setting.{Setting}}, Fault.{FailsAs}, Reading.{IsEventKind}, Row.{fixed, shape_of, words_of}, Says.{SaysEvent, SaysFilter, SaysMembership, SaysNamed, SaysSetting}, Setting.{key_of}}, proofs.{Fields.{addresses_fit, family_fits, group_fits, mode_fits, name_fits, nonce_fits}, Rows.{same_kind}}}
+use Rattle.gateway_script.specs.declared.kind.Key.TheVariants as keys
 use Rattle.gateway_script.specs.declared.kind.LineKind.TheVariants as kinds
 use Rattle.gateway_script.specs.declared.setting.Setting.TheVariants as settings
 
@@ -17,37 +18,23 @@ pub record IsFit (family : Option Family) (kind : LineKind) (line : List (List �
   pub parts : line ≡ words_of kind ++ values
   pub fits : (reason : Reason) → FailsAs family kind values reason → ⊥
 
+-- a line of one field, of a form that no text of this kind fails
+field_is_fit : (family : Option Family) (kind : LineKind) (form : Form) (IsText : List ℕ → Type 0) (line : List (List ℕ)) → shape_of family kind ≡ fixed (form ∷ [])
+    → ((text : List ℕ) → IsText text → (reason : Reason) → Fails form text reason → ⊥) → HasField (words_of kind) IsText line → IsFit family kind line
+field_is_fit family kind form IsText line shape fits says = record {
+  values = says.text ∷ [];
+  parts = says.parts;
+  fits = λ reason. subst (λ (known : Shape). FailsIn known (says.text ∷ []) reason → ⊥) (sym shape) (one_fits form says.text (fits says.text says.names) reason);
+}
+
 pub setting_is_fit : (family : Option Family) (setting : Setting) (line : List (List ℕ)) → SaysSetting setting line → IsFit family (kinds.Set (key_of setting)) line
-setting_is_fit family (settings.Family value) line says = record {
-  values = says.text ∷ [];
-  parts = says.parts;
-  fits = one_fits a_family says.text (family_fits value says.text says.names);
-}
-setting_is_fit family (settings.Discovery peer) line says = record {
-  values = says.text ∷ [];
-  parts = says.parts;
-  fits = one_fits a_peer says.text (peer_fits peer says.text says.names);
-}
-setting_is_fit family (settings.Source ip) line says = record {
-  values = says.text ∷ [];
-  parts = says.parts;
-  fits = one_fits an_address says.text (any_address_fits ip says.text says.names);
-}
-setting_is_fit family (settings.Relay peer) line says = record {
-  values = says.text ∷ [];
-  parts = says.parts;
-  fits = one_fits a_peer says.text (peer_fits peer says.text says.names);
-}
-setting_is_fit family (settings.Port port) line says = record {
-  values = says.text ∷ [];
-  parts = says.parts;
-  fits = one_fits (a_number 0 65535) says.text (number_fits 0 65535 port says.text (omega arith) says.names);
-}
-setting_is_fit family (settings.Nonce nonce) line says = record {
-  values = says.text ∷ [];
-  parts = says.parts;
-  fits = one_fits a_nonce says.text (nonce_fits nonce says.text says.names);
-}
+setting_is_fit family (settings.Family value) line says = field_is_fit family (kinds.Set keys.Family) a_family _ line refl (family_fits value) says
+setting_is_fit family (settings.Discovery peer) line says = field_is_fit family (kinds.Set keys.Discovery) a_peer _ line refl (peer_fits peer) says
+setting_is_fit family (settings.Source ip) line says = field_is_fit family (kinds.Set keys.Source) an_address _ line refl (any_address_fits ip) says
+setting_is_fit family (settings.Relay peer) line says = field_is_fit family (kinds.Set keys.Relay) a_peer _ line refl (peer_fits peer) says
+setting_is_fit family (settings.Port port) line says =
+    field_is_fit family (kinds.Set keys.Port) (a_number 0 65535) (IsNumberText 0 65535 port) line refl (λ text names. number_fits 0 65535 port text (omega arith) names) says
+setting_is_fit family (settings.Nonce nonce) line says = field_is_fit family (kinds.Set keys.Nonce) a_nonce _ line refl (nonce_fits nonce) says
 
 -- a field and those after it
 field_or_more : (form : Form) (forms : List Form) (repeated : Option Form) (text : List ℕ) (texts : List (List ℕ)) (reason : Reason) → (Fails form text reason → ⊥)
@@ -112,16 +99,8 @@ kind_of_event (events.Close name) = kinds.Close
 kind_of_event events.LeaveAll = kinds.Leave
 
 pub event_is_fit : (family : Option Family) (event : GatewayEvent) (line : List (List ℕ)) → SaysEvent family event line → IsFit family (kind_of_event event) line
-event_is_fit family (events.Moment ms) line says = record {
-  values = says.text ∷ [];
-  parts = says.parts;
-  fits = one_fits a_moment says.text (moment_fits ms says.text says.names);
-}
-event_is_fit family (events.Nonce nonce) line says = record {
-  values = says.text ∷ [];
-  parts = says.parts;
-  fits = one_fits a_nonce says.text (nonce_fits nonce says.text says.names);
-}
+event_is_fit family (events.Moment ms) line says = field_is_fit family kinds.Moment a_moment _ line refl (moment_fits ms) says
+event_is_fit family (events.Nonce nonce) line says = field_is_fit family kinds.Nonce a_nonce _ line refl (nonce_fits nonce) says
 event_is_fit family (events.Datagram from bytes) line says = record {
   values = says.text ∷ says.next ∷ [];
   parts = says.parts;
@@ -138,12 +117,7 @@ event_is_fit family events.LeaveAll line says = record { values = []; parts = sa
 
 pub event_kind : (event : GatewayEvent) → IsEventKind (kind_of_event event)
 event_kind (events.Moment ms) = tt
-event_kind (events.Nonce nonce) = tt
-event_kind (events.Datagram from bytes) = tt
-event_kind (events.Open name group filter) = tt
-event_kind (events.Change name filter) = tt
-event_kind (events.Close name) = tt
-event_kind events.LeaveAll = tt
+event_kind event = tt
 
 -- no line says a setting and an event
 pub setting_or_event : (family : Option Family) (setting : Setting) (event : GatewayEvent) (line : List (List ℕ)) → SaysSetting setting line

@@ -7,23 +7,16 @@ use Rattle.gateway_machine.specs.declared.event.GatewayEvent.TheVariants as even
 use Rattle.script_lines.{specs.{declared.{fault.{LineError.{LineError, TheVariants.{Bad, Memory}}, ScriptError.{ScriptError}}, reason.Reason.{Reason}}, Lines.{IsPlain, IsShort, fields}, Reading.{FailsFirst}}, proofs.Firsts.{First-holds, First-same}}
 use Rattle.script_lines.specs.declared.fault.ScriptError.TheVariants as errors
 use Rattle.script_lines.specs.declared.reason.Reason.TheVariants as reasons
-use Rattle.gateway_script.{specs.{declared.kind.LineKind.{LineKind}, Fault.{FailsAs, order_of_values}, Row.{words_of}, Says.{SaysEvent}, SocketLine.{FailsAsCall, FailsFirstAsCall, IsSocketError, IsSocketLine, MakesCall, RulesOutCalls, SaysCall, control_line}}, proofs.{Rows.{same_kind, same_values}, Says.{kind_of_event, event_is_fit}, Unique.{SaysEvent-unique}}}
+use Rattle.gateway_script.{specs.{declared.kind.LineKind.{LineKind}, Fault.{FailsAs, order_of_values}, Row.{words_of}, Says.{SaysEvent}, SocketLine.{FailsAsCall, FailsFirstAsCall, IsSocketError, IsSocketLine, MakesCall, RulesOutCalls, SaysCall, control_line}}, proofs.{Judging.{each_of, fails_as}, Rows.{same_kind}, Says.{kind_of_event, event_is_fit}, Unique.{SaysEvent-unique}}}
 
 -- the line makes a socket call, and the fields after its word fail
 abbrev FailsInCall : Family → List (List ℕ) → Reason → Type 0
 FailsInCall family line reason =
     (kind : LineKind) × (values : List (List ℕ)) × MakesCall kind × (line ≡ words_of kind ++ values) × FailsAs (Some family) kind values reason
 
-fails_as : (family : Family) (kind : LineKind) (values line : List (List ℕ)) (reason : Reason) → line ≡ words_of kind ++ values → FailsInCall family line reason
-    → FailsAs (Some family) kind values reason
-fails_as family kind values line reason parts fails =
-    let both = sym fails.3 ∙ parts in
-    subst (λ (vs : List (List ℕ)). FailsAs (Some family) kind vs reason) (same_values fails.0 kind fails.1 values both)
-    (subst (λ (k : LineKind). FailsAs (Some family) k fails.1 reason) (same_kind fails.0 kind fails.1 values both) fails.4)
-
 in_call : (family : Family) (kind : LineKind) (values line : List (List ℕ)) (reason : Reason) → MakesCall kind → line ≡ words_of kind ++ values
     → FailsAs (Some family) kind values reason ↔ FailsInCall family line reason
-in_call family kind values line reason makes parts = (λ h. (kind, values, makes, parts, h), fails_as family kind values line reason parts)
+in_call family kind values line reason makes parts = (λ h. (kind, values, makes, parts, h), λ f. fails_as (Some family) kind values line reason parts (f.0, f.1, f.3, f.4))
 
 -- what is wrong with the fields after a call's first word is what is wrong with its line
 pub call_judged : (family : Family) (kind : LineKind) (values line : List (List ℕ)) (error : LineError) → MakesCall kind → line ≡ words_of kind ++ values
@@ -31,34 +24,8 @@ pub call_judged : (family : Family) (kind : LineKind) (values line : List (List 
 call_judged family kind values line (Bad reason) makes parts first =
     inr (
       λ none. none kind values makes parts,
-      First-same (FailsAs (Some family) kind values) (FailsAsCall family line) order_of_values reason (
-        in_call family kind values line reasons.Count makes parts,
-        (
-          in_call family kind values line reasons.Number makes parts,
-          (
-            in_call family kind values line reasons.Hex makes parts,
-            (
-              in_call family kind values line reasons.Address makes parts,
-              (
-                in_call family kind values line reasons.Peer makes parts,
-                (
-                  in_call family kind values line reasons.Name makes parts,
-                  (
-                    in_call family kind values line reasons.Mode makes parts,
-                    (
-                      in_call family kind values line reasons.Group makes parts,
-                      (
-                        in_call family kind values line reasons.Range makes parts,
-                        tt,
-                      ),
-                    ),
-                  ),
-                ),
-              ),
-            ),
-          ),
-        ),
-      ) first,
+      First-same (FailsAs (Some family) kind values) (FailsInCall family line) order_of_values reason
+          (each_of (λ reason. FailsAs (Some family) kind values reason ↔ FailsInCall family line reason) order_of_values (λ reason. in_call family kind values line reason makes parts)) first,
     )
 call_judged family kind values line Memory makes parts first = tt
 
@@ -66,10 +33,7 @@ calls_of_kind : (event : GatewayEvent) → MakesCall (kind_of_event event) → i
 calls_of_kind (events.Moment ms) makes = absurd makes
 calls_of_kind (events.Nonce nonce) makes = absurd makes
 calls_of_kind (events.Datagram from bytes) makes = absurd makes
-calls_of_kind (events.Open name group filter) makes = refl
-calls_of_kind (events.Change name filter) makes = refl
-calls_of_kind (events.Close name) makes = refl
-calls_of_kind events.LeaveAll makes = refl
+calls_of_kind event makes = refl
 
 kind_of_call : (event : GatewayEvent) → is_some (call_in event) ≡ true → MakesCall (kind_of_event event)
 kind_of_call (events.Open name group filter) call = tt
@@ -93,7 +57,7 @@ call_is_good family event line reasons.Word says call fails =
     fails (kind_of_event event) fit.values (kind_of_call event call) fit.parts
 call_is_good family event line reason says call fails =
     let fit = event_is_fit (Some family) event line says in
-    fit.fits reason (fails_as family (kind_of_event event) fit.values line reason fit.parts fails)
+    fit.fits reason (fails_as (Some family) (kind_of_event event) fit.values line reason fit.parts (fails.0, fails.1, fails.3, fails.4))
 
 no_call : (family : Family) (event : GatewayEvent) (line : List ℕ) (reason : Reason) → FailsFirstAsCall family line reason → SaysCall family event line → ⊥
 no_call family event line reason (inl long) says = long.0 says.short

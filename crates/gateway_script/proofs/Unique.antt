@@ -47,16 +47,6 @@ SaysFilter-unique family one other fields h k =
     let sources = AreAddressTexts-unique family h.sources k.sources k.texts (subst (AreAddressTexts family h.sources) same_texts h.addresses) k.addresses in
     same_filter one other mode (h.ascend ∙ (ap ascending_sources sources ∙ sym k.ascend))
 
-same_datagram : (from from' : Peer) (bytes bytes' : List ℕ) → from ≡ from' → bytes ≡ bytes' → events.Datagram from bytes ≡ events.Datagram from' bytes'
-same_datagram from from' bytes bytes' same_from same_bytes = rw (same_from, same_bytes) refl
-
-same_open : (name name' : List ℕ) (group group' : Ip) (filter filter' : FilterValue) → name ≡ name' → group ≡ group' → filter ≡ filter'
-    → events.Open name group filter ≡ events.Open name' group' filter'
-same_open name name' group group' filter filter' same_name same_group same_filter = rw (same_name, same_group, same_filter) refl
-
-same_change : (name name' : List ℕ) (filter filter' : FilterValue) → name ≡ name' → filter ≡ filter' → events.Change name filter ≡ events.Change name' filter'
-same_change name name' filter filter' same_name same_filter = rw (same_name, same_filter) refl
-
 -- what follows the first words is the same
 values_of : (kind : LineKind) (line values values' : List (List ℕ)) → line ≡ words_of kind ++ values → line ≡ words_of kind ++ values' → values ≡ values'
 values_of kind line values values' parts parts' = same_values kind kind values values' (sym parts ∙ parts')
@@ -71,10 +61,11 @@ open_same family name name' group group' filter filter' line h k =
     let fields = sym h.after.parts ∙ (same_rest ∙ k.after.parts) in
     let same_group : h.after.text ≡ k.after.text = cc in
     let same_fields : h.after.rest ≡ k.after.rest = cc in
-    same_open name name' group group' filter filter'
-    (IsNameText-unique name name' k.text (subst (IsNameText name) same_text h.names) k.names)
-    (IsAddressText-unique family group group' k.after.text (subst (λ (text : List ℕ). IsGroupText family group text) same_group h.after.joins).0 k.after.joins.0)
-    (SaysFilter-unique family filter filter' k.after.rest (subst (SaysFilter family filter) same_fields h.after.filters) k.after.filters)
+    rw (
+      IsNameText-unique name name' k.text (subst (IsNameText name) same_text h.names) k.names,
+      IsAddressText-unique family group group' k.after.text (subst (λ (text : List ℕ). IsGroupText family group text) same_group h.after.joins).0 k.after.joins.0,
+      SaysFilter-unique family filter filter' k.after.rest (subst (SaysFilter family filter) same_fields h.after.filters) k.after.filters,
+    ) refl
 
 change_same : (family : Option Family) (name name' : List ℕ) (filter filter' : FilterValue) (line : List (List ℕ))
     → SaysEvent family (events.Change name filter) line → SaysEvent family (events.Change name' filter') line
@@ -83,9 +74,10 @@ change_same family name name' filter filter' line h k =
     let both = values_of kinds.Change line (h.text ∷ h.rest) (k.text ∷ k.rest) h.parts k.parts in
     let same_text : h.text ≡ k.text = cc in
     let same_rest : h.rest ≡ k.rest = cc in
-    same_change name name' filter filter'
-    (IsNameText-unique name name' k.text (subst (IsNameText name) same_text h.names) k.names)
-    (SaysFilter-unique family filter filter' k.rest (subst (SaysFilter family filter) same_rest h.after) k.after)
+    rw (
+      IsNameText-unique name name' k.text (subst (IsNameText name) same_text h.names) k.names,
+      SaysFilter-unique family filter filter' k.rest (subst (SaysFilter family filter) same_rest h.after) k.after,
+    ) refl
 
 close_same : (family : Option Family) (name name' : List ℕ) (line : List (List ℕ))
     → SaysEvent family (events.Close name) line → SaysEvent family (events.Close name') line → events.Close name ≡ events.Close name'
@@ -104,8 +96,10 @@ SaysEvent-same family (events.Datagram from bytes) (events.Datagram from' bytes'
     let parts = sym h.parts ∙ k.parts in
     let same_peer : h.text ≡ k.text = cc in
     let same_hex : h.next ≡ k.next = cc in
-    same_datagram from from' bytes bytes' (IsPeerText-unique from from' k.text (subst (IsPeerText from) same_peer h.names) k.names)
-    (IsHexText-unique bytes bytes' k.next (subst (IsHexText bytes) same_hex h.names_next) k.names_next)
+    rw (
+      IsPeerText-unique from from' k.text (subst (IsPeerText from) same_peer h.names) k.names,
+      IsHexText-unique bytes bytes' k.next (subst (IsHexText bytes) same_hex h.names_next) k.names_next,
+    ) refl
 SaysEvent-same family (events.Open name group filter) (events.Open name' group' filter') line same h k =
     open_same family name name' group group' filter filter' line h k
 SaysEvent-same family (events.Change name filter) (events.Change name' filter') line same h k = change_same family name name' filter filter' line h k
