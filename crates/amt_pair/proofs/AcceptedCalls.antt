@@ -17,8 +17,7 @@ abbrev pub MayCall : Family → SocketCall → Type 0
 MayCall family (Open name group filter) =
     (is_forwardable group ≡ true) × (is_of_family family group ≡ true) × HasSourcesOf family filter
 MayCall family (Change name filter) = HasSourcesOf family filter
-MayCall family (Close name) = Unit {0}
-MayCall family LeaveAll = Unit {0}
+MayCall family call = Unit {0}
 
 -- the newest call was accepted after the older ones
 pub record IsAccepted (family : Family) (newest : AcceptedCall) (older : List AcceptedCall) : Type 0 where

@@ -1,5 +1,5 @@
 -- Lists in which one item alone passes a test, and what splits of a list say of each of its items.
-use Rattle.std.{proofs.Common.{◌≡◌, Bool, true, false, List, [], ◌∷◌, ◌++◌, map, if◌then◌else◌, filter, refl, ap, ◌∙◌, subst, append_assoc}, specs.List.{AllByRecursion}}
+use Rattle.std.{proofs.Common.{◌≡◌, Bool, true, false, List, [], ◌∷◌, ◌++◌, map, if◌then◌else◌, filter, refl, ap, ◌∙◌, append_assoc}, specs.List.{AllByRecursion}}
 
 -- false where it isn't true
 pub is_false : (answer : Bool) → (answer ≡ true → ⊥) → answer ≡ false
@@ -21,12 +21,6 @@ all_at Fact (y ∷ before) x after all = all_at Fact before x after all.1
 pub all_more : {X : Type 0} (Fact : X → Type 0) (xs : List X) (x : X) → AllByRecursion Fact xs → Fact x → AllByRecursion Fact (xs ++ x ∷ [])
 all_more Fact [] x all here = (here, tt)
 all_more Fact (y ∷ xs) x all here = (all.0, all_more Fact xs x all.1 here)
-
--- and of each item on either side of one of which it holds
-pub all_joined : {X : Type 0} (Fact : X → Type 0) (before : List X) (x : X) (after : List X) → AllByRecursion Fact before → Fact x → AllByRecursion Fact after
-    → AllByRecursion Fact (before ++ x ∷ after)
-all_joined Fact [] x after all here rest = (here, rest)
-all_joined Fact (y ∷ before) x after all here rest = (all.0, all_joined Fact before x after all.1 here rest)
 
 -- no item passes
 abbrev pub NonePasses : {X : Type 0} → (X → Bool) → List X → Type 0
@@ -60,28 +54,24 @@ module _ {X : Type 0} (test : X → Bool) where
   abbrev pub PassesOnce : List X → Type 0
   PassesOnce xs = (before between after : List X) (one other : X) → xs ≡ before ++ one ∷ (between ++ other ∷ after) → test one ≡ true → test other ≡ true → ⊥
 
-  none_before : (before : List X) (one : X) (after : List X) → PassesOnce (before ++ one ∷ after) → test one ≡ true → NonePasses test before
-  none_before before one after once passes =
-      all_by_splits (λ x. test x ≡ false) before (λ left right x is. is_false (test x)
-      (λ too. once left right after x one
-      (ap (λ (xs : List X). xs ++ one ∷ after) is ∙ append_assoc left (x ∷ right) (one ∷ after)) too passes))
+  -- where one does, none before and none after it do
+  alone : (xs before : List X) (one : X) (after : List X) → PassesOnce xs → xs ≡ before ++ one ∷ after → test one ≡ true → NonePasses test before × NonePasses test after
+  alone xs before one after once is passes = (
+    all_by_splits (λ x. test x ≡ false) before (λ left right x split. is_false (test x) (λ too. once left right after x one
+        (is ∙ ap (λ (first : List X). first ++ one ∷ after) split ∙ append_assoc left (x ∷ right) (one ∷ after)) too passes)),
+    all_by_splits (λ x. test x ≡ false) after (λ left right x split. is_false (test x) (λ too. once before left right one x
+        (is ∙ ap (λ (rest : List X). before ++ one ∷ rest) split) passes too)),
+  )
 
-  none_after : (before : List X) (one : X) (after : List X) → PassesOnce (before ++ one ∷ after) → test one ≡ true → NonePasses test after
-  none_after before one after once passes =
-      all_by_splits (λ x. test x ≡ false) after (λ left right x is. is_false (test x)
-      (λ too. once before left right one x (ap (λ (xs : List X). before ++ one ∷ xs) is) passes too))
-
-  -- where no two do, the one that does is kept alone
+  -- that one is kept alone
   pub filter_alone : (xs before : List X) (one : X) (after : List X) → PassesOnce xs → xs ≡ before ++ one ∷ after → test one ≡ true → filter test xs ≡ one ∷ []
   filter_alone xs before one after once is passes =
-      let here : PassesOnce (before ++ one ∷ after) = subst PassesOnce is once in
-      ap (filter test) is
-      ∙ filter_one before one after (none_before before one after here passes) passes (none_after before one after here passes)
+      let none = alone xs before one after once is passes in
+      ap (filter test) is ∙ filter_one before one after none.0 passes none.1
 
   -- and changed alone
   pub map_alone : (change : X → X) (xs before : List X) (one : X) (after : List X) → PassesOnce xs → xs ≡ before ++ one ∷ after → test one ≡ true
       → map (changed change) xs ≡ before ++ change one ∷ after
   map_alone change xs before one after once is passes =
-      let here : PassesOnce (before ++ one ∷ after) = subst PassesOnce is once in
-      ap (map (changed change)) is
-      ∙ map_one change before one after (none_before before one after here passes) passes (none_after before one after here passes)
+      let none = alone xs before one after once is passes in
+      ap (map (changed change)) is ∙ map_one change before one after none.0 passes none.1

@@ -10,7 +10,7 @@ use Rattle.amt_pair.specs.Schedule.{Course, IsPairEvent, Member, Upward, course_
 use Rattle.amt_pair.specs.{Sent.{SentReport}, declared.event.PairEvent.{PairEvent, TheVariants.{Down, Moment as MomentForAll, Packet as PacketComes, Rotate as SecretComes, Socket, Up}}}
 use Rattle.amt_pair.proofs.{Courses.{changes_of, course_hosts, course_of-more, course_of-none, later_by, logged-after, now_of-nil, now_of-push}, DownDatagrams.{IsDown, states-down}, GatewaySteps.{States, moment_passed, run-start}, MembersAt.{host_at}}
 use Rattle.amt_pair.proofs.Follows.{Stands, latest-made, made_for, member_of, report_by, stands-gateways, stands-relay}
-use Rattle.amt_pair.proofs.{Hosts.{one-name, placed-start}, Listed.{All-from_contains, Contains-filter_map, Contains-later, Contains-reverse, first-is, none-in, numbered-among}, PeerReports.{reports_from}, RelayEntries.{delivery-entry, report-from}, RelaySteps.{down-delivery, down-packet, none-down, packet-entry}}
+use Rattle.amt_pair.proofs.{Hosts.{one-name, placed-start}, Listed.{All-from_contains, Contains-filter_map, Contains-later, Contains-reverse, first-is, none-in, numbered-among}, PeerReports.{reports_from}, RelayEntries.{delivery-entry}, RelaySteps.{down-delivery, down-packet, none-down, packet-entry}}
 use Rattle.amt_pair.proofs.{TunnelEntries.{IsMade, IsPrompt, changes_made}, TunnelReports.{IsForwarded, IsReport}, Upwards.{IsHosted, IsUpward}}
 
 -- ---- a socket call
@@ -24,9 +24,9 @@ timeless-call (Passes at) some = absurd cc
 timeless-call event some = refl
 
 -- an entry up to a moment is prompt where the moment is
-prompt-by : (by : Option SentReport) (now at : ℕ) → at ≤ now → ((report : SentReport) → by ≡ Some report → now ≤ report.moment + 60000) → IsPrompt by at
-prompt-by None now at early each = tt
-prompt-by (Some report) now at early each = let late = each report refl in omega arith
+prompt-by : (by : Option SentReport) (now at : ℕ) → at ≤ now → IsPrompt by now → IsPrompt by at
+prompt-by None now at early prompt = tt
+prompt-by (Some report) now at early prompt = omega arith
 
 -- ---- the gateways of a course
 
@@ -101,17 +101,15 @@ module _ (setup : PairSetup) (lawful : IsLawfulSetup setup) (host : Host) (among
         let known : (report : SentReport) → report_from host.peer upward ≡ Some report → Contains reports report × All IsForwarded report.records =
         λ report is.
         let listed = Contains-reverse _ report (Contains-filter_map (report_from host.peer) course.up upward report (sent upward refl) is) in
-        (listed, (All-contains (IsReport (Unit {0}) lifetime _ _) reports report stands.run.telling.orderly.settled.reports listed).forwarded) in
+        (listed, (All-contains (IsReport (Unit {0}) lifetime _ _) reports report stands.run.orderly.settled.reports listed).forwarded) in
         stands-timeless (Some upward) (delivery_up upward) refl (down-delivery setup.settings setup.secret course.relay upward is_upward)
         (λ change is.
         let entry = delivery-entry setup.settings setup.secret course.relay host.peer endpoint upward reports change host_is.peer own is_upward known is in
         let early = entry.early in
         record {
           said = entry.made;
-          prompt = λ in_time. prompt-by (report_from host.peer upward) (now_of course.relay) _ (omega (arith, latest-made setup host.peer course logged)) (λ report made_by.
-              let parts = report-from host.peer upward report made_by in
-              let same = parts.1 in
-              let late = timely upward refl parts.0 in_time in omega arith);
+          prompt = λ in_time. prompt-by (report_from host.peer upward) (now_of course.relay) _ (omega (arith, latest-made setup host.peer course logged))
+              (entry.prompt (λ from. timely upward refl from in_time));
         })
 
     -- each event of a schedule

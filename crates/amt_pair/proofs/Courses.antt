@@ -1,11 +1,11 @@
 -- Where schedules lead: what each event leaves holds after every schedule. The gateways of a course are those of its
 -- setup, and its entries are the relay's accepted log.
-use Rattle.std.{proofs.{Common.{◌≡◌, ℕ, max, Bool, true, false, List, [], ◌∷◌, ◌++◌, map, fold, filter_map, if◌then◌else◌, Option, None, Some, refl, sym, ap, ◌∙◌}, lemmas.List.{map-append, Elements.{filter_map-append}, Sums.{fold-append}}}, specs.List.{cons_option}}
+use Rattle.std.{proofs.{Common.{◌≡◌, ℕ, max, Bool, true, false, List, [], ◌∷◌, ◌++◌, map, fold, filter_map, if◌then◌else◌, Option, None, Some, refl, sym, ap, ◌∙◌, subst}, lemmas.List.{map-append, Elements.{All-push, filter_map-append}, Sums.{fold-append}}}, specs.List.{cons_option}}
 use Rattle.endpoint_membership.specs.declared.change.Change.{Change}
 use Rattle.gateway_machine.specs.declared.event.GatewayEvent.{GatewayEvent, TheVariants.{Moment as Passes}}
 use Rattle.relay_machine.{specs.{Accepted.{accepted_back, accepted_log, entry_of, with_change}, Events.{moment_in, now_of}, declared.{event.Event.{Event, TheVariants.{Moment, Packet, Rotate}}, sends.OneSend.{OneSend}}}, proofs.Onward.{accepted-push}}
-use Rattle.amt_pair.specs.Schedule.{Course, Entry, Member, Upward, course_of, delivery_down, delivery_up, down_delivered, has_name, is_at, numbered, start, up_delivered, with_entry, with_gateway_event, with_member_event, with_pair_event, with_relay_event}
-use Rattle.amt_pair.{specs.{Setup.{Host, PairSetup}, State.{StandsFor, hosts_of}, declared.{event.PairEvent.{PairEvent, TheVariants.{Down, Moment as MomentForAll, Packet as PacketComes, Rotate as SecretComes, Socket, Up}}, pair.Pair.{Pair}}}, proofs.MembersAt.{host_at, hosts_are}}
+use Rattle.amt_pair.specs.Schedule.{Course, Entry, FitsItsType, IsPairEvent, MayCome, Member, Upward, course_of, delivery_down, delivery_up, down_delivered, has_name, is_at, numbered, start, up_delivered, with_entry, with_gateway_event, with_member_event, with_pair_event, with_relay_event}
+use Rattle.amt_pair.{specs.{Setup.{Host, PairSetup}, State.{PairAt, StandsFor, hosts_of}, declared.{event.PairEvent.{PairEvent, TheVariants.{Down, Moment as MomentForAll, Packet as PacketComes, Rotate as SecretComes, Socket, Up}}, pair.Pair.{Pair}}}, proofs.MembersAt.{host_at, hosts_are}}
 
 -- one more event
 pub course_of-more : (setup : PairSetup) (schedule : List PairEvent) (event : PairEvent)
@@ -79,6 +79,17 @@ course_hosts setup schedule =
 pub pair_hosts : (pair : Pair) (setup : PairSetup) (schedule : List PairEvent) → StandsFor pair setup (course_of setup schedule) → hosts_of pair ≡ setup.hosts
 pair_hosts pair setup schedule stands =
     hosts_are pair.gateways (course_of setup schedule).members stands.gateways ∙ course_hosts setup schedule
+
+-- a pair after one more event of its schedule
+pub pair_at_more : (before after : Pair) (setup : PairSetup) (schedule : List PairEvent) (event : PairEvent) → PairAt before setup schedule → MayCome (hosts_of before) event
+    → FitsItsType event → StandsFor after setup (with_pair_event setup (course_of setup schedule) event) → PairAt after setup (schedule ++ event ∷ [])
+pair_at_more before after setup schedule event at may fits stands = record {
+  setup_lawful = at.setup_lawful;
+  events_may_come =
+      All-push (IsPairEvent setup.hosts) schedule event at.events_may_come
+      (record { may_come = subst (λ (hosts : List Host). MayCome hosts event) (pair_hosts before setup schedule at.stands) may; fits = fits });
+  stands = subst (λ (course : Course). StandsFor after setup course) (sym (course_of-more setup schedule event)) stands;
+}
 
 -- ---- the moment
 

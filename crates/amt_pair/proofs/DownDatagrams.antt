@@ -2,7 +2,7 @@
 use Rattle.std.proofs.{Common.{◌≡◌, ℕ, ◌+◌, ◌≤◌, ◌<◌, ◌^◌, Bool, true, false, List, [], ◌∷◌, ◌++◌, length, Option, Some, None, Ok, refl, sym, ap, ◌∙◌, arith, length-append}}
 use Rattle.byteorder.specs.{Endian.{big_bytes}, Numbers.{length-bytes_high_first}}
 use Rattle.amt_values.specs.{EndpointValue.{EndpointValue}, declared.{address.Ip.{Ip, TheVariants.{V4, V6}}, mac.Mac48.{Mac48}, peer.Peer.{Peer}}}
-use Rattle.amt_messages.specs.{Layout.{gateway_octets, query_flags, spelling_of}, Messages.{IsGateway}, Refusal.{message_of}, declared.message.Message.{Message, TheVariants.{Discovery, Advertisement, Request, Query, Update, Multicast, Teardown}}}
+use Rattle.amt_messages.specs.{Layout.{gateway_octets, query_flags, spelling_of}, Messages.{IsGateway}, Refusal.{message_of}, declared.message.Message.{Message, TheVariants.{Advertisement, Query, Multicast}}}
 use Rattle.inner_datagrams.specs.{declared.inner.InnerFault.{InnerFault}, Fault.{first_inner_fault}, Reading.{inner_at, payload_in}}
 use Rattle.response_mac.specs.{ResponseMac.{mac_of}, declared.secret.Secret.{Secret}}
 use Rattle.source_filter.specs.declared.query.QueryFields.{QueryFields}
@@ -70,13 +70,8 @@ same-inner : (limited other_limited : Bool) (mac other_mac : Mac48) (nonce other
 same-inner limited other_limited mac other_mac nonce other_nonce inner other_inner seen other_seen same = ap inner_octets same
   where
     inner_octets : Message → List ℕ
-    inner_octets (Discovery nonce) = []
-    inner_octets (Advertisement nonce relay) = []
-    inner_octets (Request v6 nonce) = []
     inner_octets (Query limited mac nonce inner seen) = inner
-    inner_octets (Update mac nonce inner) = []
-    inner_octets (Multicast packet) = []
-    inner_octets (Teardown mac nonce gateway) = []
+    inner_octets message = []
 
 four-octets : (number : ℕ) → length (big_bytes 4 number) ≡ 4
 four-octets number = length-bytes_high_first 4 number

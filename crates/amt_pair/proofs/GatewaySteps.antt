@@ -6,10 +6,10 @@ use Rattle.source_filter.specs.{declared.query.QueryFields.{QueryFields}, declar
 use Rattle.group_records.specs.declared.family.Family.{Family}
 use Rattle.endpoint_membership.specs.Log.{on_group}
 use Rattle.socket_merge.specs.{Changes.{change_records}, FullReport.{is_quiet}, History.{AcceptedCall, Change, Close, LeaveAll, Open, SocketCall, latest, with_call}, Interface.{interface}}
-use Rattle.gateway_machine.specs.Answers.{Answer, accepted_answer, advertisement_answer, answer_at as answer_to_moment, ask, asked_relay, begin_with, call_by, cause_heard, changed_answer, datagram_answer, due_answer, fields_heard, history_after, if_accepted, is_idle, is_opening, joined_relay, packet_by, query_accepted, query_by, query_kept, quiet, refusal_at, same_peer}
-use Rattle.gateway_machine.specs.{Exchange.{active, moved, relay_named, requesting, retried}, General.{general_query_in}, Laws.{HasQuery, HasRelay}, Reports.{full_records, full_report, teardown, update}, Runs.{Run, answer_in, run_of}, Settings.{HasSourceOfFamily, family_of}, Timing.{farewell_ms, last_lifetime, lifetime_of}}
+use Rattle.gateway_machine.specs.Answers.{Answer, accepted_answer, advertisement_answer, answer_at as answer_to_moment, ask, asked_relay, begin_with, call_by, cause_heard, changed_answer, datagram_answer, due_answer, event_answer, fields_heard, history_after, if_accepted, is_idle, is_opening, joined_relay, packet_by, query_accepted, query_by, query_kept, quiet, refusal_at, same_peer}
+use Rattle.gateway_machine.specs.{Exchange.{active, moved, relay_named, requesting, retried, with_next_nonce}, General.{general_query_in}, Laws.{HasQuery, HasRelay}, Reports.{full_records, full_report, teardown, update}, Runs.{Run, run_of}, Settings.{HasSourceOfFamily, family_of}, Timing.{farewell_ms, last_lifetime, lifetime_of}}
 use Rattle.gateway_machine.specs.declared.{event.GatewayEvent.{GatewayEvent, TheVariants.{Moment, Nonce as Draws, Datagram, Open as Opens, Change as GetsFilter, Close as Closes, LeaveAll as LeavesAll}}, exchange.{Exchange.{Exchange}, GatewayState.{GatewayState, TheVariants.{Idle as InIdle, Discovering as InDiscovering, Requesting as InRequesting, Active as InActive}}, LastQuery.{LastQuery}}}
-use Rattle.gateway_machine.{specs.declared.{outcome.{GatewayOutcome.{GatewayOutcome}, Ignored.{Ignored}, SocketRefusal.{SocketRefusal}}, settings.GatewaySettings.{GatewaySettings}}, proofs.Runs.{run_of-append, run_of-nil}}
+use Rattle.gateway_machine.{specs.declared.{outcome.{GatewayOutcome.{GatewayOutcome, TheVariants.{Drawn}}, Ignored.{Ignored}, SocketRefusal.{SocketRefusal}}, settings.GatewaySettings.{GatewaySettings}}, proofs.{Runs.{run_of-append, run_of-nil}, Steady.{either}}}
 use Rattle.amt_pair.{specs.{Events.{MayHappen}, Sent.{SentReport}}, proofs.{AcceptedCalls.{AreAccepted, MayCall, accepted-call}, Courses.{later_by}, OpenSockets.{HasFilter, HaveFilters}, ReportedAddresses.{MayStand}, ReportedRecords.{changed-is, changed-some, full-is, unchanged}}}
 use Rattle.amt_pair.proofs.StepReports.{MayBeSent, changed-may_be_sent, full-may_be_sent, reported, reports-append, reports-request, reports-teardown, reports-update, reports_in, send-is}
 use Rattle.amt_pair.proofs.{Tunnel.{Tunnel, is_active, keep_of, report_now, reports_on, see}, TunnelReports.{IsForwarded, IsOrderly, orderly-asked, orderly-changed, orderly-kept, orderly-later}}
@@ -47,10 +47,6 @@ record IsSilent (exchange : Exchange) (answer : Answer) : Type 0 where
   none : (history : List AcceptedCall) → reports_in answer.next history answer.sends ≡ []
   leaves : is_active answer.next.state ≡ true → is_active exchange.state ≡ true
   ready : IsReady exchange → IsReady answer.next
-
-either : (Fact : Answer → Type 0) (test : Bool) (one other : Answer) → Fact one → Fact other → Fact (if test then one else other)
-either Fact true one other first second = first
-either Fact false one other first second = second
 
 silent-quiet : (outcome : GatewayOutcome) (exchange : Exchange) → IsSilent exchange (quiet outcome exchange)
 silent-quiet outcome exchange = record { moment = refl; query = refl; none = λ history. refl; leaves = λ was. was; ready = λ is. is }
@@ -122,49 +118,52 @@ forwarded family records may = All-weaker (MayStand family) IsForwarded (λ one 
 -- ---- a gateway whose reports are in order
 
 module _ (OfRelay : Type 0) (lifetime : ℕ) (settings : GatewaySettings) where
-  -- each call was accepted, and the reports are in order
-  pub record IsTelling (exchange : Exchange) (history : List AcceptedCall) (reports : List SentReport) : Type 0 where
+  -- each call was accepted, the reports are in order, and it has become this moment
+  pub record IsTelling (moment : ℕ) (exchange : Exchange) (history : List AcceptedCall) (reports : List SentReport) : Type 0 where
     pub accepted : AreAccepted (family_of settings) history
     pub filters : HaveFilters history
-    pub orderly : IsOrderly OfRelay lifetime (see exchange history reports)
     pub ready : IsReady exchange
+    pub moment_is : exchange.moment ≡ moment
+    pub orderly : IsOrderly OfRelay lifetime (see exchange history reports)
 
-  -- so it is after an answer, which leaves it at this moment
-  record IsToldAt (moment : ℕ) (answer : Answer) (history : List AcceptedCall) (reports : List SentReport) : Type 0 where
-    telling : IsTelling answer.next history (reverse (reports_in answer.next history answer.sends) ++ reports)
-    moment_is : answer.next.moment ≡ moment
+  -- so it is after an answer
+  abbrev IsToldBy : ℕ → Answer → List AcceptedCall → List SentReport → Type 0
+  IsToldBy moment answer history reports = IsTelling moment answer.next history (reverse (reports_in answer.next history answer.sends) ++ reports)
 
-  silent-told : (exchange : Exchange) (answer : Answer) (history : List AcceptedCall) (reports : List SentReport) → IsSilent exchange answer → IsTelling exchange history reports
-      → IsToldAt exchange.moment answer history reports
-  silent-told exchange answer history reports silent telling =
+  silent-told : (moment : ℕ) (exchange : Exchange) (answer : Answer) (history : List AcceptedCall) (reports : List SentReport) → IsSilent exchange answer
+      → IsTelling moment exchange history reports → IsToldBy moment answer history reports
+  silent-told moment exchange answer history reports silent telling =
       let lifetime_is = ap last_lifetime silent.query in
       let sent = ap (λ (found : List SentReport). reverse found ++ reports) (silent.none history) in
       let same : after_answer answer history reports ≡ record (see exchange history reports) { is_active = is_active answer.next.state } =
       λ i. record { moment = silent.moment i; is_active = is_active answer.next.state; lifetime = lifetime_is i; history = history; sent = sent i } in
       record {
-        telling = record {
-          accepted = telling.accepted;
-          filters = telling.filters;
-          orderly = subst (IsOrderly OfRelay lifetime) (sym same)
-              (orderly-later OfRelay lifetime (see exchange history reports) exchange.moment (is_active answer.next.state) (omega arith) silent.leaves telling.orderly);
-          ready = silent.ready telling.ready;
-        };
-        moment_is = silent.moment;
+        accepted = telling.accepted;
+        filters = telling.filters;
+        ready = silent.ready telling.ready;
+        moment_is = silent.moment ∙ telling.moment_is;
+        orderly = subst (IsOrderly OfRelay lifetime) (sym same)
+            (orderly-later OfRelay lifetime (see exchange history reports) exchange.moment (is_active answer.next.state) (omega arith) silent.leaves telling.orderly);
       }
 
-  module _ (own : HasSourceOfFamily settings) (exchange : Exchange) (history : List AcceptedCall) (reports : List SentReport) (telling : IsTelling exchange history reports) where
-    moment-told : (at : ℕ) → IsToldAt (max exchange.moment at) (answer_to_moment settings (moved at exchange) history) history reports
-    moment-told at = silent-told (moved at exchange) _ history reports (silent-at settings (moved at exchange) history) (record {
+  module _ (own : HasSourceOfFamily settings) (moment : ℕ) (exchange : Exchange) (history : List AcceptedCall) (reports : List SentReport)
+      (telling : IsTelling moment exchange history reports) where
+    quiet-told : (answer : Answer) → IsSilent exchange answer → IsToldBy moment answer history reports
+    quiet-told answer silent = silent-told moment exchange answer history reports silent telling
+
+    moment-told : (at : ℕ) → IsToldBy (max moment at) (answer_to_moment settings (moved at exchange) history) history reports
+    moment-told at = silent-told (max moment at) (moved at exchange) _ history reports (silent-at settings (moved at exchange) history) (record {
       accepted = telling.accepted;
       filters = telling.filters;
-      orderly = orderly-later OfRelay lifetime (see exchange history reports) (max exchange.moment at) (is_active exchange.state) (omega arith) (λ was. was) telling.orderly;
       ready = record { relay = telling.ready.relay; query = telling.ready.query };
+      moment_is = ap (λ (now : ℕ). max now at) telling.moment_is;
+      orderly = orderly-later OfRelay lifetime (see exchange history reports) (max exchange.moment at) (is_active exchange.state) (omega arith) (λ was. was) telling.orderly;
     })
 
     -- ---- a datagram
 
     query-told : (query : LastQuery) → IsKnown exchange.relay → (OfRelay → query.lifetime_ms ≡ lifetime)
-        → IsToldAt exchange.moment (query_accepted settings exchange history query) history reports
+        → IsToldBy moment (query_accepted settings exchange history query) history reports
     query-told query known relay =
         let next = active query exchange in
         let records = full_records settings next history in
@@ -176,30 +175,28 @@ module _ (OfRelay : Type 0) (lifetime : ℕ) (settings : GatewaySettings) where
         ∙ ap₂ (λ (none found : List SentReport). none ++ found) (reports-teardown next history exchange.query query.seen exchange)
         (reports-update next history settings true records own known (query, refl) may) in
         record {
-          telling = record {
-            accepted = telling.accepted;
-            filters = telling.filters;
-            orderly = subst (IsOrderly OfRelay lifetime)
-                (send-is next history reports true records ∙ ap (λ (found : List SentReport). see next history (reverse found ++ reports)) (sym sent))
-                (orderly-asked OfRelay lifetime (see exchange history reports) query.lifetime_ms records relay
-                (full-is (family_of settings) history exchange.moment (keep_of query.lifetime_ms) telling.accepted) (forwarded (family_of settings) records may) telling.orderly);
-            ready = record { relay = known; query = (query, refl) };
-          };
-          moment_is = refl;
+          accepted = telling.accepted;
+          filters = telling.filters;
+          ready = record { relay = known; query = (query, refl) };
+          moment_is = telling.moment_is;
+          orderly = subst (IsOrderly OfRelay lifetime)
+              (send-is next history reports true records ∙ ap (λ (found : List SentReport). see next history (reverse found ++ reports)) (sym sent))
+              (orderly-asked OfRelay lifetime (see exchange history reports) query.lifetime_ms records relay
+              (full-is (family_of settings) history exchange.moment (keep_of query.lifetime_ms) telling.accepted) (forwarded (family_of settings) records may) telling.orderly);
         }
 
     heard-told : (heard : Result QueryFields Ignored) (mac : Mac48) (nonce : ℕ) (seen : Option EndpointValue)
         → ((fields : QueryFields) → heard ≡ Ok fields → IsKnown exchange.relay × (OfRelay → lifetime_of (family_of settings) fields ≡ lifetime))
-        → IsToldAt exchange.moment (query_by heard settings exchange history mac nonce seen) history reports
-    heard-told (Err cause) mac nonce seen states = silent-told exchange _ history reports (silent-quiet _ exchange) telling
+        → IsToldBy moment (query_by heard settings exchange history mac nonce seen) history reports
+    heard-told (Err cause) mac nonce seen states = telling
     heard-told (Ok fields) mac nonce seen states = let both = states fields refl in query-told (query_kept settings mac nonce seen fields) both.0 both.1
 
     datagram-told : (reading : Result Message Refused) (from : Peer)
         → ((limited : Bool) (mac : Mac48) (nonce : ℕ) (inner : List ℕ) (seen : Option EndpointValue) (fields : QueryFields)
         → reading ≡ Ok (Query limited mac nonce inner seen) → general_query_in settings.v6 inner ≡ Ok fields → OfRelay → lifetime_of (family_of settings) fields ≡ lifetime)
-        → IsToldAt exchange.moment (datagram_answer settings exchange history from reading) history reports
+        → IsToldBy moment (datagram_answer settings exchange history from reading) history reports
     datagram-told (Ok (Advertisement nonce relay)) from states =
-        silent-told exchange _ history reports (silent-advertisement settings exchange exchange.state nonce relay) telling
+        quiet-told _ (silent-advertisement settings exchange exchange.state nonce relay)
     datagram-told (Ok (Query limited mac nonce inner seen)) from states =
         let known = asked_relay exchange.state exchange.relay in
         heard-told (fields_heard known settings.v6 exchange from nonce inner) mac nonce seen
@@ -208,9 +205,9 @@ module _ (OfRelay : Type 0) (lifetime : ℕ) (settings : GatewaySettings) where
           states limited mac nonce inner seen fields refl (heard-fields known settings.v6 exchange from nonce inner fields is),
         ))
     datagram-told (Ok (Multicast packet)) from states =
-        silent-told exchange _ history reports (silent-packet (cause_heard (joined_relay exchange.state exchange.relay) history from packet) exchange packet) telling
-    datagram-told (Ok message) from states = silent-told exchange _ history reports (silent-quiet _ exchange) telling
-    datagram-told (Err refusal) from states = silent-told exchange _ history reports (silent-quiet _ exchange) telling
+        quiet-told _ (silent-packet (cause_heard (joined_relay exchange.state exchange.relay) history from packet) exchange packet)
+    datagram-told (Ok message) from states = telling
+    datagram-told (Err refusal) from states = telling
 
     -- ---- a socket call
 
@@ -219,12 +216,18 @@ module _ (OfRelay : Type 0) (lifetime : ℕ) (settings : GatewaySettings) where
       after = with_call exchange.moment call history
 
       module _ (calls : AreAccepted (family_of settings) after) (filters : HaveFilters after) where
-        kept : (is_active exchange.state ≡ false) ⊎ ((group : Ip) → interface history group ≡ interface after group) → IsTelling exchange after reports
-        kept same = record { accepted = calls; filters = filters; orderly = orderly-kept OfRelay lifetime (see exchange history reports) call same telling.orderly; ready = telling.ready }
+        kept : (is_active exchange.state ≡ false) ⊎ ((group : Ip) → interface history group ≡ interface after group) → IsTelling moment exchange after reports
+        kept same = record {
+          accepted = calls;
+          filters = filters;
+          ready = telling.ready;
+          moment_is = telling.moment_is;
+          orderly = orderly-kept OfRelay lifetime (see exchange history reports) call same telling.orderly;
+        }
 
         changed-told : (records : List Record) → change_records (family_of settings) history after ≡ records → exchange.state ≡ InActive
-            → IsToldAt exchange.moment (changed_answer settings exchange after records) after reports
-        changed-told [] are active = silent-told exchange _ after reports (silent-quiet _ exchange) (kept (inr (unchanged (family_of settings) _ history calls filters are)))
+            → IsToldBy moment (changed_answer settings exchange after records) after reports
+        changed-told [] are active = kept (inr (unchanged (family_of settings) _ history calls filters are))
         changed-told (first ∷ more) are active =
             let family = family_of settings in
             let records = first ∷ more in
@@ -242,84 +245,66 @@ module _ (OfRelay : Type 0) (lifetime : ℕ) (settings : GatewaySettings) where
             ∙ ap₂ (λ (found more : List SentReport). found ++ more) (reports-update exchange after settings false records own relay query these)
             (reports-update exchange after settings true full own relay query those) in
             record {
-              telling = record {
-                accepted = calls;
-                filters = filters;
-                orderly = subst (IsOrderly OfRelay lifetime)
-                    (send-is exchange after (one ∷ reports) true full
-                    ∙ ap (see exchange after) (sym (append_assoc (reverse other) (one ∷ []) reports))
-                    ∙ ap (λ (found : List SentReport). see exchange after (found ++ reports)) (sym (reverse-append (one ∷ []) other))
-                    ∙ ap (λ (found : List SentReport). see exchange after (reverse found ++ reports)) (sym sent))
-                    (orderly-changed OfRelay lifetime (see exchange history reports) call first more full (ap is_active active)
-                    (λ group. ap (on_group group) (sym are) ∙ changed-is family _ history calls group) (full-is family after exchange.moment (farewell_ms exchange.query) calls)
-                    (changed-some family history after first more are) (forwarded family records these) (forwarded family full those) telling.orderly);
-                ready = telling.ready;
-              };
-              moment_is = refl;
+              accepted = calls;
+              filters = filters;
+              ready = telling.ready;
+              moment_is = telling.moment_is;
+              orderly = subst (IsOrderly OfRelay lifetime)
+                  (send-is exchange after (one ∷ reports) true full
+                  ∙ ap (see exchange after) (sym (append_assoc (reverse other) (one ∷ []) reports))
+                  ∙ ap (λ (found : List SentReport). see exchange after (found ++ reports)) (sym (reverse-append (one ∷ []) other))
+                  ∙ ap (λ (found : List SentReport). see exchange after (reverse found ++ reports)) (sym sent))
+                  (orderly-changed OfRelay lifetime (see exchange history reports) call first more full (ap is_active active)
+                  (λ group. ap (on_group group) (sym are) ∙ changed-is family _ history calls group) (full-is family after exchange.moment (farewell_ms exchange.query) calls)
+                  (changed-some family history after first more are) (forwarded family records these) (forwarded family full those) telling.orderly);
             }
 
         accepted-told : (state : GatewayState) (opening : Bool) → exchange.state ≡ state
-            → IsToldAt exchange.moment (accepted_answer state opening settings exchange history after) after reports
+            → IsToldBy moment (accepted_answer state opening settings exchange history after) after reports
         accepted-told InActive opening is = changed-told (change_records (family_of settings) history after) refl is
-        accepted-told InIdle true is = silent-told exchange _ after reports (silent-begin settings exchange exchange.relay (λ peer known ready. (peer, known))) (kept (inl (ap is_active is)))
-        accepted-told state opening is = silent-told exchange _ after reports (silent-quiet _ exchange) (kept (inl (ap is_active is)))
+        accepted-told InIdle true is = silent-told moment exchange _ after reports (silent-begin settings exchange exchange.relay (λ peer known ready. (peer, known))) (kept (inl (ap is_active is)))
+        accepted-told state opening is = kept (inl (ap is_active is))
 
-      refused-told : (refusal : Option SocketRefusal) → refusal_at exchange history call ≡ refusal
-          → IsToldAt exchange.moment (call_by refusal (accepted_answer exchange.state (is_opening call) settings exchange history after) exchange)
-          (if_accepted refusal history after) reports
-      refused-told None none = accepted-told (accepted-call (family_of settings) exchange.moment call history may none, telling.accepted) (filter, telling.filters)
+      call-told : (refusal : Option SocketRefusal) → refusal_at exchange history call ≡ refusal
+          → IsToldBy moment (call_by refusal (accepted_answer exchange.state (is_opening call) settings exchange history after) exchange) (if_accepted refusal history after) reports
+      call-told None none = accepted-told (accepted-call (family_of settings) exchange.moment call history may none, telling.accepted) (filter, telling.filters)
           exchange.state (is_opening call) refl
-      refused-told (Some refusal) none = silent-told exchange _ history reports (silent-quiet _ exchange) telling
+      call-told (Some refusal) none = telling
 
-      call-told : IsToldAt exchange.moment (call_by (refusal_at exchange history call) (accepted_answer exchange.state (is_opening call) settings exchange history after) exchange)
-          (if_accepted (refusal_at exchange history call) history after) reports
-      call-told = refused-told (refusal_at exchange history call) refl
+    -- ---- each event
 
-  -- ---- each event
-
-  told : HasSourceOfFamily settings → (run : Run) (event : GatewayEvent) (reports : List SentReport) → MayHappen settings event → (OfRelay → States lifetime settings event)
-      → IsTelling run.exchange run.history reports
-      → IsToldAt (later_by (moment_passed event) run.exchange.moment) (answer_in settings run event) (history_after run.exchange run.history event) reports
-  told own run (Moment at) reports may states telling = moment-told own run.exchange run.history reports telling at
-  told own run (Draws nonce) reports may states telling =
-      silent-told run.exchange _ run.history reports (record { moment = refl; query = refl; none = λ history. refl; leaves = λ was. was; ready = λ is. record { relay = is.relay; query = is.query } }) telling
-  told own run (Datagram from bytes) reports may states telling =
-      datagram-told own run.exchange run.history reports telling (message_of bytes) from
-      (λ limited mac nonce inner seen fields read general relay. states relay limited mac nonce inner seen fields read general)
-  told own run (Opens name group filter) reports may states telling =
-      call-told own run.exchange run.history reports telling (Open name group filter) (may.may_come.0, may.may_come.1, may.may_come.2.family) may.is
-  told own run (GetsFilter name filter) reports may states telling =
-      call-told own run.exchange run.history reports telling (Change name filter) may.may_come.family may.is
-  told own run (Closes name) reports may states telling = call-told own run.exchange run.history reports telling (Close name) tt tt
-  told own run LeavesAll reports may states telling = call-told own run.exchange run.history reports telling LeaveAll tt tt
+    told : (event : GatewayEvent) → MayHappen settings event → (OfRelay → States lifetime settings event)
+        → IsToldBy (later_by (moment_passed event) moment) (event_answer settings exchange history event) (history_after exchange history event) reports
+    told (Moment at) may states = moment-told at
+    told (Draws nonce) may states =
+        quiet-told (quiet Drawn (with_next_nonce nonce exchange)) (record { moment = refl; query = refl; none = λ history. refl; leaves = λ was. was; ready = λ is. record { relay = is.relay; query = is.query } })
+    told (Datagram from bytes) may states =
+        datagram-told (message_of bytes) from (λ limited mac nonce inner seen fields read general relay. states relay limited mac nonce inner seen fields read general)
+    told (Opens name group filter) may states = call-told (Open name group filter) (may.may_come.0, may.may_come.1, may.may_come.2.family) may.is (refusal_at exchange history (Open name group filter)) refl
+    told (GetsFilter name filter) may states = call-told (Change name filter) may.may_come.family may.is (refusal_at exchange history (Change name filter)) refl
+    told (Closes name) may states = call-told (Close name) tt tt (refusal_at exchange history (Close name)) refl
+    told LeavesAll may states = call-told LeaveAll tt tt (refusal_at exchange history LeaveAll) refl
 
   -- ---- runs
 
   module _ (first : ℕ) where
     -- the run tells this, and has come to the moment
-    pub record IsRun (moment : ℕ) (events : List GatewayEvent) (reports : List SentReport) : Type 0 where
-      pub telling : IsTelling (run_of settings first events).exchange (run_of settings first events).history reports
-      pub moment_is : (run_of settings first events).exchange.moment ≡ moment
+    abbrev pub IsRun : ℕ → List GatewayEvent → List SentReport → Type 0
+    IsRun moment events reports = IsTelling moment (run_of settings first events).exchange (run_of settings first events).history reports
 
     pub run-start : IsRun 0 [] []
-    run-start = record {
-      telling = subst (λ (run : Run). IsTelling run.exchange run.history []) (sym (run_of-nil settings first)) (record {
-        accepted = tt;
-        filters = tt;
-        orderly = record { settled = record { calls = omega arith; active = λ relay on. absurd cc; reports = All-nil _; farewells = tt }; newest = tt };
-        ready = record { relay = tt; query = tt };
-      });
-      moment_is = ap (λ (run : Run). run.exchange.moment) (run_of-nil settings first);
-    }
+    run-start = subst (λ (run : Run). IsTelling 0 run.exchange run.history []) (sym (run_of-nil settings first)) (record {
+      accepted = tt;
+      filters = tt;
+      ready = record { relay = tt; query = tt };
+      moment_is = refl;
+      orderly = record { settled = record { calls = omega arith; active = λ relay on. absurd cc; reports = All-nil _; farewells = tt }; newest = tt };
+    })
 
     pub run-next : HasSourceOfFamily settings → (moment : ℕ) (events : List GatewayEvent) (event : GatewayEvent) (reports : List SentReport) → MayHappen settings event
         → (OfRelay → States lifetime settings event) → IsRun moment events reports
         → IsRun (later_by (moment_passed event) moment) (events ++ event ∷ []) (reports_on settings (run_of settings first events) event ++ reports)
     run-next own moment events event reports may states run =
         let before = run_of settings first events in
-        let next = run_of-append settings first events event in
-        let is = told own before event reports may states run.telling in
-        record {
-          telling = subst (λ (one : Run). IsTelling one.exchange one.history (reports_on settings before event ++ reports)) (sym next) is.telling;
-          moment_is = ap (λ (one : Run). one.exchange.moment) next ∙ is.moment_is ∙ ap (later_by (moment_passed event)) run.moment_is;
-        }
+        subst (λ (one : Run). IsTelling (later_by (moment_passed event) moment) one.exchange one.history (reports_on settings before event ++ reports))
+        (sym (run_of-append settings first events event)) (told own moment before.exchange before.history reports run event may states)

@@ -1,9 +1,9 @@
 -- Gateways that are apart: one more, and those that a name or an endpoint names.
-use Rattle.std.{proofs.{Common.{◌≡◌, ℕ, Bool, true, false, ◌||◌, List, [], ◌∷◌, ◌++◌, All, Contains, Some, None, Option, Ordering, Less, Equal, Greater, is_eq, refl, sym, ap, ◌∙◌, subst, append_assoc}, lemmas.List.Elements.{All-contains, All-from_recursion}}, specs.{Cmp.{nat_eq_equiv, Lexicographic.{lists_equiv}}, List.{AllByRecursion}}}
+use Rattle.std.{proofs.{Common.{◌≡◌, ℕ, Bool, true, false, ◌||◌, List, [], ◌∷◌, ◌++◌, Some, None, Option, Ordering, Less, Equal, Greater, is_eq, refl, sym, ap, ◌∙◌, subst}}, specs.{Cmp.{nat_eq_equiv, Lexicographic.{lists_equiv}}, List.{AllByRecursion}}}
 use Rattle.amt_values.{specs.{Endpoint.{endpoint_of}, EndpointValue.{EndpointValue}, Order.{endpoint_order}, declared.peer.Peer.{Peer}}, proofs.Orders.{endpoint_order-exact}}
 use Rattle.gateway_machine.specs.Answers.{same_peer}
 use Rattle.socket_merge.specs.History.{same_name}
-use Rattle.amt_pair.{specs.{OwnEndpoints.{HasOwnEndpoint}, Schedule.{is_endpoint}, Setup.{AreApart, Host, has_taken}}, proofs.{Alone.{all_at, all_by_splits, all_joined, all_more}, HeardQueries.{same_peer-itself}}}
+use Rattle.amt_pair.{specs.{OwnEndpoints.{HasOwnEndpoint}, Schedule.{is_endpoint}, Setup.{AreApart, Host, has_taken}}, proofs.{Alone.{all_at, all_by_splits, all_more}, HeardQueries.{same_peer-itself}}}
 
 -- the gateways have neither one name nor one peer
 pub record Differ (one other : Host) : Type 0 where
@@ -95,20 +95,3 @@ pub peers_at : (endpoint : EndpointValue) (one other : Peer) → HasOwnEndpoint 
     → is_endpoint endpoint (endpoint_of one) ≡ true → is_endpoint endpoint (endpoint_of other) ≡ true → one ≡ other
 peers_at endpoint one other own other_own is other_is =
     sym (own endpoint (found_by endpoint (endpoint_of one) is)) ∙ other_own endpoint (found_by endpoint (endpoint_of other) other_is)
-
--- of the name of this one it is this one
-abbrev IsAlike : Host → Host → Type 0
-IsAlike one host = host.name ≡ one.name → host ≡ one
-
--- in a list of gateways that are apart, one of the name of this one is this one
-pub named_alike : (before after : List Host) (one : Host) (hosts : List Host) (other : Host) → AreApart hosts → Contains hosts other
-    → hosts ≡ before ++ one ∷ after → other.name ≡ one.name → other ≡ one
-named_alike before after one hosts other apart contains is =
-    let left_alike : AllByRecursion (IsAlike one) before =
-    all_by_splits (IsAlike one) before (λ left right host here name. absurd (apart.names left right after host one
-    (is ∙ (ap (λ (rest : List Host). rest ++ one ∷ after) here ∙ append_assoc left (host ∷ right) (one ∷ after))) name)) in
-    let right_alike : AllByRecursion (IsAlike one) after =
-    all_by_splits (IsAlike one) after (λ left right host here name. absurd (apart.names before left right one host
-    (is ∙ ap (λ (rest : List Host). before ++ one ∷ rest) here) (sym name))) in
-    let all = all_joined (IsAlike one) before one after left_alike (λ same. refl) right_alike in
-    All-contains (IsAlike one) hosts other (subst (All (IsAlike one)) (sym is) (All-from_recursion (IsAlike one) (before ++ one ∷ after) all)) contains

@@ -60,7 +60,7 @@ run-keeps_farewells settings first events own small all earlier full group comes
     ∙ ap (λ (found : List SentReport). found ++ reports_back past) (reports-after (comes.other ∷ []) comes.after
     ∙ ap (λ (found : List SentReport). reports_back comes.after ++ found) (one-report comes.other full comes.full_is))
     ∙ append_assoc (reports_back comes.after) (full ∷ []) (reports_back past) in
-    kept_between (reports_back comes.after) (reports_back past) full earlier group (subst AreFarewellsKept order run.telling.orderly.settled.farewells)
+    kept_between (reports_back comes.after) (reports_back past) full earlier group (subst AreFarewellsKept order run.orderly.settled.farewells)
     (Contains-reverse _ earlier (Contains-filter_map report_of past comes.one earlier
     (Contains-append_right comes.before (comes.one ∷ comes.between) comes.one (Contains-first comes.one comes.between)) comes.earlier_is))
     comes.is_full none recent

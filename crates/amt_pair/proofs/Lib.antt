@@ -1,5 +1,4 @@
 pub mod AcceptedCalls
-pub mod AgreedRows
 pub mod Alone
 pub mod BothEnds
 pub mod ChangeLimits
@@ -20,8 +19,6 @@ pub mod MembersAt
 pub mod Moments
 pub mod Numbers
 pub mod OpenSockets
-pub mod PairEvents
-pub mod PairSame
 pub mod PairStates
 pub mod PeerReports
 pub mod QueryTimes

@@ -45,9 +45,6 @@ module _ {X : Type 0} where
   All-from_contains P (x ∷ xs) each =
       All-cons P x xs (each x (Contains-first x xs)) (All-from_contains P xs (λ y among. each y (Contains-later x y xs among)))
 
-  pub reverse-push : (xs : List X) (x : X) → reverse (xs ++ x ∷ []) ≡ x ∷ reverse xs
-  reverse-push xs x = reverse-append xs (x ∷ [])
-
   pub reverse-cons : (x : X) (xs : List X) → reverse (x ∷ xs) ≡ reverse xs ++ x ∷ []
   reverse-cons x xs = reverse-append (x ∷ []) xs
 

@@ -73,9 +73,6 @@ pub IsMadeGood-same : (history : List AcceptedCall) (group : Ip) (moment : ℕ) 
     → IsMadeGood history group moment records → IsMadeGood history group moment others
 IsMadeGood-same history group moment records others same good at keep none within = All-same IsLeaving others records same (good at keep none within)
 
-pub IsMadeGood-none : (history : List AcceptedCall) (group : Ip) (moment : ℕ) → IsMadeGood history group moment []
-IsMadeGood-none history group moment at keep none within = All-nil IsLeaving
-
 full_leaves : (wanted recent : Bool) (state : Record) (group : Ip) → wanted ≡ false → All IsLeaving (cond wanted (state ∷ []) (cond recent (farewell group ∷ []) []))
 full_leaves true recent state group unwanted = absurd cc
 full_leaves false true state group unwanted = All-cons IsLeaving (farewell group) [] (record { kind = refl; sources = refl }) (All-nil IsLeaving)

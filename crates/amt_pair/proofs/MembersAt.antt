@@ -1,7 +1,7 @@
 -- Where the gateways of a pair are, one by one and all together.
 use Rattle.std.{proofs.{Common.{◌≡◌, ◌≤◌, ◌<◌, ℕ, zero, suc, ◌||◌, Bool, true, List, [], ◌∷◌, ◌++◌, map, length, get_or, set, All, HoldsAt, IfSome, Option, Some, None, refl, sym, ap, ◌∙◌, subst, arith}, lemmas.List.Elements.{All-append, All-map}}, specs.List.{list_any}}
 use Rattle.amt_values.specs.declared.peer.Peer.{Peer}
-use Rattle.gateway_machine.specs.{Answers.{history_after, same_peer}, Runs.{settings_of}, Sends.{Sending, datagram_of}, declared.{event.GatewayEvent.{GatewayEvent}, exchange.Exchange.{Exchange}, settings.GatewaySettings.{GatewaySettings}, step.PeerSend.{PeerSend}}}
+use Rattle.gateway_machine.specs.{Answers.{history_after, same_peer}, Sends.{Sending, datagram_of}, declared.{event.GatewayEvent.{GatewayEvent}, exchange.Exchange.{Exchange}, step.PeerSend.{PeerSend}}}
 use Rattle.socket_merge.specs.History.{AcceptedCall, same_name}
 use Rattle.amt_pair.{specs.{Members.{AreMembersAt, AreShort, IsMemberAt, IsPlaceOf, host_of, kept_datagram, kept_upward}, Schedule.{Member, Upward, answer_at, run_of_member, upwards_on}, Sent.{Sent}, Setup.{Host, has_taken}, declared.{datagrams.UpDatagram.{UpDatagram}, gateways.NamedGateway.{NamedGateway}}}, proofs.Alone.{NonePasses}}
 
@@ -46,34 +46,26 @@ short_more from sends slice up sent after short sends_short same sent_are append
     subst AreShort (sym is)
     (All-append IsShort up (map (kept_datagram from) sends) short (All-map IsShort (kept_datagram from) sends sends_short))
 
-abbrev host_with : List ℕ → Peer → GatewaySettings → Host
-host_with name peer settings = record { name = name; peer = peer; settings = settings }
-
 -- the gateway is what its member says of it
 pub host_is : (named : NamedGateway) (member : Member) → IsMemberAt named member → host_of named ≡ member.host
-host_is named member at =
-    ap (λ (name : List ℕ). host_with name named.peer (settings_of named.gateway)) at.name
-    ∙ ap (λ (peer : Peer). host_with member.host.name peer (settings_of named.gateway)) at.peer
-    ∙ ap (λ (settings : GatewaySettings). host_with member.host.name member.host.peer settings) at.gateway.settings_kept
+host_is named member at = λ i. record { name = at.name i; peer = at.peer i; settings = at.gateway.settings_kept i }
 
 abbrev pub host_at : Member → Host
 host_at member = member.host
 
 pub hosts_are : (gateways : List NamedGateway) (members : List Member) → AreMembersAt gateways members → map host_of gateways ≡ map host_at members
 hosts_are [] [] at = refl
-hosts_are [] (member ∷ members) at = absurd at
-hosts_are (named ∷ gateways) [] at = absurd at
 hosts_are (named ∷ gateways) (member ∷ members) at =
     let first = host_is named member at.0 in
     let rest = hosts_are gateways members at.1 in
     cc
+hosts_are gateways members at = absurd at
 
 -- there are as many
 pub lengths_are : (gateways : List NamedGateway) (members : List Member) → AreMembersAt gateways members → length gateways ≡ length members
 lengths_are [] [] at = refl
-lengths_are [] (member ∷ members) at = absurd at
-lengths_are (named ∷ gateways) [] at = absurd at
 lengths_are (named ∷ gateways) (member ∷ members) at = ap suc (lengths_are gateways members at.1)
+lengths_are gateways members at = absurd at
 
 -- the gateway at a place, and those before and after it
 pub record IsSplitAt (before : List NamedGateway) (one : NamedGateway) (after : List NamedGateway) (members : List Member) : Type 0 where
@@ -155,18 +147,16 @@ split_place (one ∷ gateways) (suc place) within =
 pub members_more : (gateways : List NamedGateway) (members : List Member) (named : NamedGateway) (member : Member)
     → AreMembersAt gateways members → IsMemberAt named member → AreMembersAt (gateways ++ named ∷ []) (members ++ member ∷ [])
 members_more [] [] named member at now = (now, tt)
-members_more [] (other ∷ members) named member at now = absurd at
-members_more (first ∷ gateways) [] named member at now = absurd at
 members_more (first ∷ gateways) (other ∷ members) named member at now = (at.0, members_more gateways members named member at.1 now)
+members_more gateways members named member at now = absurd at
 
 -- a test of a gateway's host is one of its member's
 pub none_at : (test : Host → Bool) (gateways : List NamedGateway) (members : List Member) → AreMembersAt gateways members
     → NonePasses (λ named. test (host_of named)) gateways → NonePasses (λ member. test member.host) members
 none_at test [] [] at none = tt
-none_at test [] (member ∷ members) at none = absurd at
-none_at test (named ∷ gateways) [] at none = absurd at
 none_at test (named ∷ gateways) (member ∷ members) at none =
     (ap test (sym (host_is named member at.0)) ∙ none.0, none_at test gateways members at.1 none.1)
+none_at test gateways members at none = absurd at
 
 -- a name or a peer is taken where some gateway has it
 pub taken_by : (name : List ℕ) (peer : Peer) (gateways : List NamedGateway)
@@ -176,13 +166,11 @@ taken_by name peer (one ∷ gateways) =
     ap (λ (rest : Bool). (same_name name one.name || same_peer one.peer peer) || rest) (taken_by name peer gateways)
 
 -- a place at which a gateway passes
-pub placed : (test : NamedGateway → Bool) (gateways : List NamedGateway) (place : ℕ) → place < length gateways
+placed : (test : NamedGateway → Bool) (gateways : List NamedGateway) (place : ℕ) → place < length gateways
     → HoldsAt (λ one. test one ≡ true) gateways place → IsPlaceOf test gateways place
-placed test [] place within holds = absurd (omega arith)
-placed test (one ∷ gateways) zero within holds = ([], one, gateways, refl, refl, holds one)
-placed test (one ∷ gateways) (suc place) within holds =
-    let more = placed test gateways place (omega arith) holds in
-    (one ∷ more.0, more.1, more.2, ap (λ (rest : List NamedGateway). one ∷ rest) more.3, ap suc more.4, more.5)
+placed test gateways place within holds =
+    let split = split_place gateways place within in
+    (split.before, split.one, split.after, split.split, split.place_is, ap test (sym (split.here split.one)) ∙ holds split.one)
 
 pub placed_by : (test : NamedGateway → Bool) (gateways : List NamedGateway) (found : Option ℕ) → IfSome found (λ place. place < length gateways)
     → IfSome found (HoldsAt (λ one. test one ≡ true) gateways) → IfSome found (IsPlaceOf test gateways)

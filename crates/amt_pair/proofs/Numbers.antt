@@ -1,24 +1,14 @@
 -- Datagrams by their numbers, and what their deliveries are.
-use Rattle.std.{proofs.{Common.{◌≡◌, ◌-◌, ℕ, zero, suc, nat_lt, Bool, true, false, List, [], ◌∷◌, ◌++◌, map, length, get_or, All, Contains, Option, Some, None, if◌then◌else◌, slice_get, refl, sym, ap, ◌∙◌, subst}, lemmas.List.{length-map, map-append, Elements.{recursion_from_All}}}, specs.{Cmp.Lexicographic.{same_text}, List.{AllByRecursion}}}
+use Rattle.std.{proofs.{Common.{◌≡◌, ℕ, List, [], ◌∷◌, ◌++◌, map, length, get_or, All, Contains, Option, Some, sym, refl, ap, ◌∙◌, subst}, lemmas.List.{length-map, map-append, Elements.{All-contains, Contains-append_right}}}, specs.Cmp.Lexicographic.{same_text}}
 use Rattle.amt_values.specs.declared.peer.Peer.{Peer}
 use Rattle.gateway_machine.specs.{Events.{IsEventOf}, declared.event.GatewayEvent.{GatewayEvent, TheVariants.{Datagram as Heard}}}
 use Rattle.relay_machine.specs.declared.sends.OneSend.{OneSend}
 use Rattle.socket_merge.specs.History.{same_name}
-use Rattle.amt_pair.{specs.{Members.{IsPlaceOf, host_of}, Parts.{down_parts, or_absent, parts_of}, Schedule.{Course, delivery_down, down_delivered, numbered, with_pair_event}, Setup.{AreApart, Host, PairSetup, relay_peer}, declared.{event.PairEvent.TheVariants.{Down}, gateways.NamedGateway.{NamedGateway}, step.Part.{Part}}}, proofs.HostsApart.{named_alike}}
-
-got_at : {X : Type 0} (Fact : X → Type 0) (xs : List X) (place : ℕ) (x : X) → AllByRecursion Fact xs → Some x ≡ slice_get xs place → Fact x
-got_at Fact [] place x all is = cc
-got_at Fact (y ∷ xs) zero x all is = let same : x ≡ y = cc in subst Fact (sym same) all.0
-got_at Fact (y ∷ xs) (suc place) x all is = got_at Fact xs place x all.1 is
-
-numbered_by : {X : Type 0} (some : Bool) (Fact : X → Type 0) (xs : List X) (place : ℕ) (x : X) → AllByRecursion Fact xs
-    → Some x ≡ (if some then slice_get xs place else None) → Fact x
-numbered_by true Fact xs place x all is = got_at Fact xs place x all is
-numbered_by false Fact xs place x all is = cc
+use Rattle.amt_pair.{specs.{Members.{IsPlaceOf, host_of}, Parts.{down_parts, or_absent, parts_of}, Schedule.{Course, delivery_down, down_delivered, numbered, with_pair_event}, Setup.{AreApart, Host, PairSetup, relay_peer}, declared.{event.PairEvent.TheVariants.{Down}, gateways.NamedGateway.{NamedGateway}, step.Part.{Part}}}, proofs.{Hosts.{one-name}, Listed.{Contains-first, numbered-among}}}
 
 -- what holds of each holds of the one of a number
 pub all_numbered : {X : Type 0} (Fact : X → Type 0) (xs : List X) (number : ℕ) (x : X) → All Fact xs → Some x ≡ numbered xs number → Fact x
-all_numbered Fact xs number x all is = numbered_by (nat_lt 0 number) Fact xs (number - 1) x (recursion_from_All Fact xs all) is
+all_numbered Fact xs number x all is = All-contains Fact xs x all (numbered-among xs number x (sym is))
 
 module _ (setup : PairSetup) (course : Course) (number : ℕ) where
   pub down_parts_are : (send : OneSend) (parts : List Part) → numbered course.down number ≡ Some send
@@ -33,8 +23,7 @@ module _ (setup : PairSetup) (course : Course) (number : ℕ) where
 -- a delivery to a gateway is what was sent, from the relay
 pub is_delivery_down : (setup : PairSetup) (send : OneSend) (from : Peer) (bytes : List ℕ) → from ≡ relay_peer setup.settings → bytes ≡ send.bytes
     → Heard from bytes ≡ delivery_down setup send
-is_delivery_down setup send from bytes is bytes_are =
-    ap (λ (peer : Peer). Heard peer bytes) is ∙ ap (λ (octets : List ℕ). Heard (relay_peer setup.settings) octets) bytes_are
+is_delivery_down setup send from bytes is bytes_are = λ i. Heard (is i) (bytes_are i)
 
 at_length : {X : Type 0} (before : List X) (x : X) (after : List X) (default : X) → get_or (before ++ x ∷ after) (length before) default ≡ x
 at_length [] x after default = refl
@@ -59,7 +48,7 @@ call_may_come name event gateways place host apart (first, named, last, gateways
     let same : host_of named ≡ one =
     same_place (map host_of gateways) before (map host_of first) one (host_of named) after (map host_of last) is hosts_are
     (sym here ∙ place_is ∙ sym (length-map first host_of)) in
-    let alike : host ≡ host_of named =
-    named_alike (map host_of first) (map host_of last) (host_of named) (map host_of gateways) host apart contains hosts_are
+    let listed = Contains-append_right (map host_of first) (host_of named ∷ map host_of last) (host_of named) (Contains-first (host_of named) (map host_of last)) in
+    let alike = one-name (map host_of gateways) host (host_of named) apart contains (subst (λ (all : List Host). Contains all (host_of named)) (sym hosts_are) listed)
     (is_named ∙ same_text name named.name (sym passes)) in
     subst (λ (which : Host). IsEventOf which.settings event) (alike ∙ same) may

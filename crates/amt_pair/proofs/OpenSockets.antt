@@ -10,8 +10,7 @@ use Rattle.amt_pair.{specs.Events.{IsFilter}, proofs.AcceptedCalls.{AreAccepted,
 abbrev pub HasFilter : SocketCall → Type 0
 HasFilter (Open name group filter) = IsFilter filter
 HasFilter (Change name filter) = IsFilter filter
-HasFilter (Close name) = Unit {0}
-HasFilter LeaveAll = Unit {0}
+HasFilter call = Unit {0}
 
 -- so are those of the accepted calls
 abbrev pub HaveFilters : List AcceptedCall → Type 0

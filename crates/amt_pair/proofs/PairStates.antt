@@ -1,25 +1,20 @@
 -- What a pair stands for after a step of the relay, of one gateway, or of all.
-use Rattle.std.{proofs.{Common.{◌≡◌, ℕ, Bool, true, false, not, List, [], ◌∷◌, ◌++◌, map, flat_map, filter, length, All, Contains, Option, Some, None, IfNone, IsSome, refl, sym, ap, ◌∙◌, subst, append-nil, OnOk, OnErr, IfOk, Result, Ok, Err}, lemmas.List.{map-append, Elements.{All-contains, All-map, All-nil, recursion_from_All}}}, specs.Cmp.{nat_eq_equiv, Lexicographic.{lists_equiv}}}
+use Rattle.std.{proofs.{Props.{props}, Common.{◌≡◌, ℕ, Bool, true, false, not, List, [], ◌∷◌, ◌++◌, map, flat_map, filter, length, All, Contains, Option, Some, None, IfNone, IsSome, refl, sym, ap, ◌∙◌, subst, append-nil, OnOk, OnErr, IfOk, Result, Ok, Err}, lemmas.List.{map-append, Elements.{All-contains, All-map, All-nil, recursion_from_All}}}, specs.Cmp.{nat_eq_equiv, Lexicographic.{lists_equiv}}}
+use mathlib.Core.HLevel.{is_prop→PathP}
 use Rattle.amt_values.specs.{Endpoint.{endpoint_of}, EndpointValue.{EndpointValue}}
 use Rattle.gateway_machine.specs.declared.event.GatewayEvent.{GatewayEvent, TheVariants.{Moment as Passes}}
-use Rattle.relay_machine.specs.{Accepted.{change_of}, Answers.{outcome_of, sends_of}, declared.{event.Event.{Event}, outcome.Outcome.{Outcome}, sends.{OneSend.{OneSend}, Step.{Step}}}}
-use Rattle.endpoint_membership.specs.declared.change.Change.{Change}
+use Rattle.relay_machine.specs.{Accepted.{change_of}, Answers.{outcome_of, sends_of}, declared.{event.Event.{Event}, relay.Relay.{Relay as RelayValue}, sends.{OneSend.{OneSend}, Step.{Step}}}}
 use Rattle.socket_merge.specs.History.{same_name}
-use Rattle.amt_pair.specs.{Members.{AreMembersAt, IsMemberAt, IsPlaceOf, host_of, kept_upward}, OwnEndpoints.{HasOwnEndpoint}, Parts.{gateway_part, gateway_parts, relay_step}}
-use Rattle.amt_pair.specs.{Schedule.{Course, IsPairEvent, Member, Upward, has_name, is_at, is_endpoint, start, upwards_on, with_gateway_event, with_member_event}, Setup.{AreApart, Host, IsLawfulSetup, PairSetup}, State.{PairAt, StandsFor, with_member_at}}
+use Rattle.amt_pair.specs.{Members.{AreMembersAt, AreShort, AreShortSends, IsMemberAt, IsPlaceOf, host_of, kept_upward}, OwnEndpoints.{HasOwnEndpoint}, Parts.{gateway_part, gateway_parts, relay_step}}
+use Rattle.amt_pair.specs.{Schedule.{Course, IsPairEvent, Member, Upward, has_name, is_at, is_endpoint, start, upwards_on, with_gateway_event, with_member_event}, Setup.{AreApart, Host, IsLawfulSetup, PairSetup, relay_peer}, State.{PairAt, StandsFor, with_member_at}}
 use Rattle.amt_pair.{specs.declared.{pair.Pair.{Pair}, datagrams.UpDatagram.{UpDatagram}, gateways.NamedGateway.{NamedGateway}, step.Part.TheVariants.{Relay}}, proofs.{Courses.{course_of-none}, Alone.{NonePasses, PassesOnce}, Deliveries.{once_by_endpoint, once_by_name, one_part, one_reached}, MembersAt.{host_at, host_is, hosts_are, members_more, none_at, split_at}}}
-
-abbrev step_with : Outcome → List OneSend → Option Change → Step
-step_with outcome sends change = record { outcome = outcome; sends = sends; change = change }
 
 -- a step of the relay is told by its fields
 pub relay_step_is : (setup : PairSetup) (course : Course) (event : Event) (step : Step)
     → step.outcome ≡ outcome_of setup.settings setup.secret course.relay event → step.sends ≡ sends_of setup.settings setup.secret course.relay event
     → step.change ≡ change_of setup.settings setup.secret course.relay event → Relay step ∷ [] ≡ Relay (relay_step setup course event) ∷ []
 relay_step_is setup course event step outcome sends change =
-    ap (λ (told : Outcome). Relay (step_with told step.sends step.change) ∷ []) outcome
-    ∙ ap (λ (sent : List OneSend). Relay (step_with (outcome_of setup.settings setup.secret course.relay event) sent step.change) ∷ []) sends
-    ∙ ap (λ (entry : Option Change). Relay (step_with (outcome_of setup.settings setup.secret course.relay event) (sends_of setup.settings setup.secret course.relay event) entry) ∷ []) change
+    λ i. Relay (record { outcome = outcome i; sends = sends i; change = change i }) ∷ []
 
 -- with more datagrams
 pub up_more : (up after : List UpDatagram) (kept more : List Upward) → up ≡ map kept_upward kept → after ≡ up ++ map kept_upward more → after ≡ map kept_upward (kept ++ more)
@@ -153,3 +148,33 @@ members_at_start gateways after hosts named host are now is =
     subst (λ (all : List NamedGateway). AreMembersAt all (map member_at_start (hosts ++ host ∷ []))) (sym is)
     (subst (AreMembersAt (gateways ++ named ∷ [])) (sym (map-append member_at_start hosts (host ∷ [])))
     (members_more gateways (map member_at_start hosts) named (member_at_start host) are now))
+
+-- ---- what else a pair holds are proofs
+
+-- a pair with another relay and other datagrams of it
+abbrev pub built : (pair : Pair) (relay : RelayValue) (down : List OneSend) → pair.peer ≡ relay_peer relay.setup.settings → AreApart (map host_of pair.gateways)
+    → All (λ host. HasOwnEndpoint host.peer) (map host_of pair.gateways) → AreShort pair.up → AreShortSends down → Pair
+built pair relay down peer_is apart own up_short down_short =
+    record pair { relay = relay; down = down; peer_is = peer_is; apart = apart; own_endpoints = own; up_short = up_short; down_short = down_short }
+
+peer_prop : (pair : Pair) (relay : RelayValue) → IsProp (pair.peer ≡ relay_peer relay.setup.settings)
+peer_prop pair relay = hlevel props
+
+short_prop : (sends : List OneSend) → IsProp (AreShortSends sends)
+short_prop sends = hlevel props
+
+pub same_pair : (pair : Pair) (relay : RelayValue) (down : List OneSend) (peer_is : pair.peer ≡ relay_peer relay.setup.settings) (apart : AreApart (map host_of pair.gateways))
+    (own : All (λ host. HasOwnEndpoint host.peer) (map host_of pair.gateways)) (up : AreShort pair.up) (down_short : AreShortSends down)
+    → relay ≡ pair.relay → down ≡ pair.down → built pair relay down peer_is apart own up down_short ≡ pair
+same_pair pair relay down peer_is apart own up down_short relay_is down_is =
+    let aparts : IsProp (AreApart (map host_of pair.gateways)) = hlevel props in
+    let owns : IsProp (All (λ host. HasOwnEndpoint host.peer) (map host_of pair.gateways)) = hlevel props in
+    let ups : IsProp (AreShort pair.up) = hlevel props in λ i. record pair {
+      relay = relay_is i;
+      down = down_is i;
+      peer_is = is_prop→PathP (λ j. pair.peer ≡ relay_peer (relay_is j).setup.settings) (λ j. peer_prop pair (relay_is j)) peer_is pair.peer_is i;
+      apart = aparts apart pair.apart i;
+      own_endpoints = owns own pair.own_endpoints i;
+      up_short = ups up pair.up_short i;
+      down_short = is_prop→PathP (λ j. AreShortSends (down_is j)) (λ j. short_prop (down_is j)) down_short pair.down_short i;
+    }

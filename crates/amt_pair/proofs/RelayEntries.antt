@@ -1,5 +1,5 @@
 -- What the entry that a datagram of a gateway makes at the relay is for one gateway.
-use Rattle.std.{proofs.{Common.{◌≡◌, ℕ, eqb, eqb-true, ◌≤◌, Bool, true, false, cond, List, [], ◌∷◌, length, All, Contains, Option, Some, None, Result, Ok, Err, refl, sym, ap, subst, ◌∙◌, arith, inl, inr}, lemmas.{Bool.{and_parts, cases_Bool, cond-false, cond-true}, List.Elements.{All-head, All-tail}, Map.Views.{tells_apart}}}, specs.Ordering.{eq_by_cmp}}
+use Rattle.std.{proofs.{Common.{◌≡◌, ℕ, ◌+◌, eqb, eqb-true, ◌≤◌, Bool, true, false, cond, List, [], ◌∷◌, length, All, Contains, Some, None, Result, Ok, refl, sym, ap, subst, ◌∙◌, arith, inl, inr}, lemmas.{Bool.{and_parts, cases_Bool, cond-false, cond-true}, List.Elements.{All-head, All-tail}, Map.Views.{tells_apart}}}, specs.Ordering.{eq_by_cmp}}
 use Rattle.amt_values.{specs.{Endpoint.{endpoint_of}, EndpointValue.{EndpointValue}, Group.{is_forwardable}, Order.{ip_order}, declared.{mac.Mac48.{Mac48}, peer.Peer.{Peer}}}, proofs.{OnePeer.{one_peer}, Orders.{endpoint_order-exact, ip_order-exact}}}
 use Rattle.amt_messages.specs.{Layout.{spelling_of}, Refusal.{message_of}, declared.message.Message.{Message, TheVariants.{Update, Teardown}}}
 use Rattle.response_mac.specs.declared.secret.Secret.{Secret}
@@ -8,7 +8,7 @@ use Rattle.endpoint_membership.specs.{EndpointGroup.{same_endpoint}, Log.{brough
 use Rattle.gateway_machine.specs.{Answers.{same_peer}, Timing.{farewell_ms}}
 use Rattle.relay_machine.specs.{Accepted.{entry_of}, Events.{now_of}, Updates.{forwardable_records, report_in}, declared.{event.Event.{Event}, outcome.Unlawful.{Unlawful}, settings.Settings.{Settings}}}
 use Rattle.amt_pair.specs.{Agreement.{report_from}, Entries.{is_change_of}, Schedule.{Upward, delivery_up}, Sent.{Sent, SentReport, report_by as report_as, report_of, report_with}, Setup.{IsPeer}}
-use Rattle.amt_pair.proofs.{Alone.{is_false}, HeardQueries.{same_peer-itself}, RelaySteps.{IsTornDown, IsUpdated, datagram-entry}, SpelledKinds.{same-kind, update-inner}, TunnelEntries.{IsMadeBy, made-cleared, made-other, made-reported}, TunnelReports.{IsForwarded}, Upwards.{IsUpward}}
+use Rattle.amt_pair.proofs.{Alone.{is_false}, HeardQueries.{same_peer-itself}, RelaySteps.{IsTornDown, IsUpdated, datagram-entry}, SpelledKinds.{same-kind, update-inner}, TunnelEntries.{IsMadeBy, IsPrompt, made-cleared, made-other, made-reported}, TunnelReports.{IsForwarded}, Upwards.{IsUpward}}
 
 -- ---- peers and endpoints that are told to be one are one
 
@@ -42,10 +42,12 @@ teardown-report sent other mac nonce named read = refl
 
 -- ---- the entry for one peer
 
--- the entry is of this moment, and made by the peer's report or says nothing of its endpoint
-pub record IsEntryOf (endpoint : EndpointValue) (sent : List SentReport) (now : ℕ) (by : Option SentReport) (change : Change) : Type 0 where
-  pub made : IsMadeBy endpoint sent change by
+-- the entry is of this moment, and made by the peer's report or says nothing of its endpoint; where the datagram
+-- is in time, the report is
+pub record IsEntryOf (peer : Peer) (endpoint : EndpointValue) (sent : List SentReport) (now : ℕ) (upward : Upward) (change : Change) : Type 0 where
+  pub made : IsMadeBy endpoint sent change (report_from peer upward)
   pub early : brought change ≤ now
+  pub prompt : (upward.from ≡ peer → now ≤ upward.sent.exchange.moment + 60000) → IsPrompt (report_from peer upward) now
 
 kept-by : (test : Bool) (first : Record) (kept more : List Record) → test ≡ true → kept ≡ more → cond test (first ∷ kept) kept ≡ first ∷ more
 kept-by true first kept more passes same = ap (λ (rest : List Record). first ∷ rest) same
@@ -68,7 +70,7 @@ module _ (peer : Peer) (endpoint : EndpointValue) (peer_is : IsPeer peer) (own :
 
   updated-entry : IsUpdated (endpoint_of upward.from) (message_of (spelling_of upward.sent.sending.message)) now change
       → ((report : SentReport) → report_from peer upward ≡ Some report → Contains sent report × All IsForwarded report.records)
-      → IsEntryOf endpoint sent now (report_from peer upward) change
+      → IsEntryOf peer endpoint sent now upward change
   updated-entry updated known =
       let early : brought change ≤ now = subst (λ (one : Change). brought one ≤ now) (sym updated.is) (omega arith) in
       elim (cases_Bool (same_peer peer upward.from)) [
@@ -84,7 +86,8 @@ module _ (peer : Peer) (endpoint : EndpointValue) (peer_is : IsPeer peer) (own :
             cond-true (same_peer peer upward.from) (report_of upward.sent) None same
             ∙ update-report upward.sent upward.sent.sending.message updated.mac updated.nonce updated.inner updated.records is_upward.mac updated.read updated.report in
             let facts = known report found in
-            let source : Some updated.source ≡ Some endpoint = sym updated.found_is ∙ ap endpoint_of (sym (same_peer-is peer upward.from same)) ∙ own in
+            let from = sym (same_peer-is peer upward.from same) in
+            let source : Some updated.source ≡ Some endpoint = sym updated.found_is ∙ ap endpoint_of from ∙ own in
             let source_is : updated.source ≡ endpoint = cc in
             let is : change ≡ Reported endpoint updated.records now =
             updated.is ∙ ap (λ (one : EndpointValue). Reported one (forwardable_records updated.records) now) source_is
@@ -93,13 +96,15 @@ module _ (peer : Peer) (endpoint : EndpointValue) (peer_is : IsPeer peer) (own :
               made = subst (IsMadeBy endpoint sent change) (sym found)
                   (subst (λ (one : Change). IsMadeBy endpoint sent one (Some report)) (sym is) (made-reported endpoint sent report now facts.0));
               early = early;
+              prompt = λ in_time. subst (λ by. IsPrompt by now) (sym found) (in_time from);
             }
-        | inr other ↦ record {
-          made = subst (IsMadeBy endpoint sent change) (sym (cond-false (same_peer peer upward.from) (report_of upward.sent) None other))
+        | inr other ↦ let none : report_from peer upward ≡ None = cond-false (same_peer peer upward.from) (report_of upward.sent) None other in record {
+          made = subst (IsMadeBy endpoint sent change) (sym none)
               (made-other endpoint sent change
               (ap (is_change_of endpoint) updated.is
               ∙ is_false (same_endpoint endpoint updated.source) (λ same. let one = endpoint-own updated.source updated.found_is same in cc)));
           early = early;
+          prompt = λ in_time. subst (λ by. IsPrompt by now) (sym none) tt;
         }
       ]
 
@@ -107,48 +112,23 @@ module _ (peer : Peer) (endpoint : EndpointValue) (peer_is : IsPeer peer) (own :
   no-report true none = none
   no-report false none = refl
 
-  torn-entry : IsTornDown (message_of (spelling_of upward.sent.sending.message)) now change → IsEntryOf endpoint sent now (report_from peer upward) change
+  torn-entry : IsTornDown (message_of (spelling_of upward.sent.sending.message)) now change → IsEntryOf peer endpoint sent now upward change
   torn-entry torn =
-      let none = no-report (same_peer peer upward.from) (teardown-report upward.sent upward.sent.sending.message torn.mac torn.nonce torn.named torn.read) in
+      let none : report_from peer upward ≡ None = no-report (same_peer peer upward.from) (teardown-report upward.sent upward.sent.sending.message torn.mac torn.nonce torn.named torn.read) in
       record {
         made = subst (IsMadeBy endpoint sent change) (sym none)
             (subst (λ (one : Change). IsMadeBy endpoint sent one None) (sym torn.is) (made-cleared endpoint torn.named sent now));
         early = subst (λ (one : Change). brought one ≤ now) (sym torn.is) (omega arith);
+        prompt = λ in_time. subst (λ by. IsPrompt by now) (sym none) tt;
       }
 
 -- the entry that a delivery makes
 pub delivery-entry : (settings : Settings) (first : Secret) (events : List Event) (peer : Peer) (endpoint : EndpointValue) (upward : Upward) (sent : List SentReport) (change : Change)
     → IsPeer peer → endpoint_of peer ≡ Some endpoint → IsUpward upward
     → ((report : SentReport) → report_from peer upward ≡ Some report → Contains sent report × All IsForwarded report.records)
-    → entry_of settings first events (delivery_up upward) ≡ Some change → IsEntryOf endpoint sent (now_of events) (report_from peer upward) change
+    → entry_of settings first events (delivery_up upward) ≡ Some change → IsEntryOf peer endpoint sent (now_of events) upward change
 delivery-entry settings first events peer endpoint upward sent change peer_is own is_upward known is =
     elim (datagram-entry settings first events (spelling_of upward.sent.sending.message) upward.from change is) [
       | inl updated ↦ updated-entry peer endpoint peer_is own upward is_upward sent (now_of events) change updated known
       | inr torn ↦ torn-entry peer endpoint peer_is own upward is_upward sent (now_of events) change torn
     ]
-
--- ---- the moment of a report
-
-report-made : (reading : Result (List Record) Unlawful) (sent : Sent) (report : SentReport) → report_as reading sent ≡ Some report → report.moment ≡ sent.exchange.moment
-report-made (Err fault) sent report is = absurd cc
-report-made (Ok records) sent report is = sym (ap (λ (found : Option SentReport). moment_in found) is)
-  where
-    moment_in : Option SentReport → ℕ
-    moment_in None = 0
-    moment_in (Some report) = report.moment
-
-report-moment : (message : Message) (sent : Sent) (report : SentReport) → report_with message sent ≡ Some report → report.moment ≡ sent.exchange.moment
-report-moment (Update mac nonce inner) sent report is = report-made (report_in inner) sent report is
-report-moment message sent report is = absurd cc
-
-from-by : (peer : Peer) (upward : Upward) (same : Bool) (report : SentReport) → cond same (report_of upward.sent) None ≡ Some report
-    → (same ≡ true) × (report_of upward.sent ≡ Some report)
-from-by peer upward true report is = (refl, is)
-from-by peer upward false report is = absurd cc
-
--- a report that is the peer's was sent from there, and is of the moment at which it was sent
-pub report-from : (peer : Peer) (upward : Upward) (report : SentReport) → report_from peer upward ≡ Some report
-    → (upward.from ≡ peer) × (report.moment ≡ upward.sent.exchange.moment)
-report-from peer upward report is =
-    let parts = from-by peer upward (same_peer peer upward.from) report is in
-    (sym (same_peer-is peer upward.from parts.0), report-moment upward.sent.sending.message upward.sent report parts.1)

@@ -7,7 +7,7 @@ use Rattle.source_filter.specs.{Changes.{changes_on}, declared.mode.Mode.{Mode, 
 use Rattle.endpoint_membership.specs.Log.{on_group}
 use Rattle.socket_merge.specs.{FullReport.{farewell, full_on, is_recent, longest_farewell, state_kind, states}, History.{AcceptedCall, SocketCall, latest}, Interface.{interface, is_wanted, left_at}}
 use Rattle.amt_pair.specs.{Sent.{SentReport}, Silence.{IsLeaving, SayNothing}}
-use Rattle.amt_pair.proofs.{MadeGood.{IsMadeGood, IsMadeGood-call, IsMadeGood-changes, IsMadeGood-full, IsMadeGood-same, full_on-changed, unnamed, unwanted-nothing}, Tunnel.{IsChanged, IsFull, Tunnel, called, keep_of, report_now, send}}
+use Rattle.amt_pair.proofs.{Alone.{is_false}, MadeGood.{IsMadeGood, IsMadeGood-call, IsMadeGood-changes, IsMadeGood-full, IsMadeGood-same, full_on-changed, unnamed, unwanted-nothing}, Tunnel.{IsChanged, IsFull, Tunnel, called, keep_of, report_now, send}}
 
 -- the record is on a group that packets are forwarded to
 abbrev pub IsForwarded : Record → Type 0
@@ -56,30 +56,23 @@ full_on-wanted : (history : List AcceptedCall) (at keep : ℕ) (group : Ip) → 
 full_on-wanted history at keep group wanted =
     cond-true (is_wanted history group) (states group (interface history group) ∷ []) (cond (is_recent at keep (left_at history group)) (farewell group ∷ []) []) wanted
 
--- a group that a report stated, and that a full report would not name now, was left when farewells no longer
--- last from the report
-stated_before : (history : List AcceptedCall) (moment keep : ℕ) (group : Ip) (report : SentReport) → full_on history moment keep group ≡ [] → keep ≤ longest_farewell
-    → IsMadeGood history group report.moment (on_group group report.records) → IsFull report.history report.moment report.keep_ms report.records
-    → is_wanted report.history group ≡ true → report.moment + keep ≤ moment
-stated_before history moment keep group report none short good whole wanted = elim (cases_Bool (ltb moment (report.moment + keep))) [
-  | inl recent ↦
-      let within = ltb-true moment (report.moment + keep) recent in
-      let state = states group (interface report.history group) in
-      let said = sym (whole group ∙ full_on-wanted report.history report.moment report.keep_ms group wanted) in
-      let leaves = All-same IsLeaving (state ∷ []) (on_group group report.records) said (good moment keep none (omega arith)) in
-      absurd (states_by (interface report.history group).mode (All-head IsLeaving state [] leaves).kind)
-  | inr past ↦ ltb-false moment (report.moment + keep) past
-]
-
--- it isn't sent, and leaves the newest report so
+-- it isn't sent, and leaves the newest report so: a group that the report stated, and that a full report would not name
+-- now, was left when farewells no longer last from then
 IsCurrentSince-empty : (history : List AcceptedCall) (moment keep : ℕ) (report : SentReport) → IsFull history moment keep [] → keep ≤ longest_farewell → report.keep_ms ≡ keep
     → ((group : Ip) → IsMadeGood history group report.moment (on_group group report.records)) → IsFull report.history report.moment report.keep_ms report.records
     → IsCurrentSince history moment report
 IsCurrentSince-empty history moment keep report empty short same good whole group =
     let none = sym (empty group) in
-    elim (cases_Bool (is_wanted report.history group)) [
-      | inl wanted ↦ let past = stated_before history moment keep group report none short (good group) whole wanted in inr (omega arith)
-      | inr unwanted ↦ inl (unwanted-nothing (interface history group) (unnamed history moment keep group none).0 ∙ sym (unwanted-nothing (interface report.history group) unwanted))
+    elim (cases_Bool (ltb moment (report.moment + keep))) [
+      | inl recent ↦
+          let within = ltb-true moment (report.moment + keep) recent in
+          let leaves = good group moment keep none (omega arith) in
+          let filter = interface report.history group in
+          let unwanted = is_false (is_wanted report.history group) (λ wanted.
+          let said = sym (whole group ∙ full_on-wanted report.history report.moment report.keep_ms group wanted) in
+          states_by filter.mode (All-head IsLeaving (states group filter) [] (All-same IsLeaving (states group filter ∷ []) (on_group group report.records) said leaves)).kind) in
+          inl (unwanted-nothing (interface history group) (unnamed history moment keep group none).0 ∙ sym (unwanted-nothing filter unwanted))
+      | inr past ↦ let later = ltb-false moment (report.moment + keep) past in inr (omega arith)
     ]
 
 -- ---- what holds in every run; where the relay's queries state one lifetime, by that

@@ -2,7 +2,7 @@
 use Rattle.std.specs.Prelude.{◌<◌, ◌^◌, List, All}
 use Rattle.amt_values.specs.{Address.{IsAddress}, Order.{ip_order}, Ascending.{IsAscending}}
 use Rattle.source_filter.specs.Filter.{FilterValue}
-use Rattle.gateway_machine.specs.{Events.{IsEventOf}, declared.{event.GatewayEvent.{GatewayEvent, TheVariants.{Moment, Nonce, Datagram, Open, Change, Close, LeaveAll}}, settings.GatewaySettings.{GatewaySettings}}}
+use Rattle.gateway_machine.specs.{Events.{IsEventOf}, declared.{event.GatewayEvent.{GatewayEvent, TheVariants.{Nonce, Open, Change}}, settings.GatewaySettings.{GatewaySettings}}}
 
 -- the sources are addresses, and ascend, as in each value of the type of filters
 pub record IsFilter (filter : FilterValue) : Type 0 where
@@ -11,13 +11,10 @@ pub record IsFilter (filter : FilterValue) : Type 0 where
 
 -- the numbers fit their fields, as in each value of the type of events: a nonce has 32 bits
 abbrev pub IsEvent : GatewayEvent → Type 0
-IsEvent (Moment at) = Unit {0}
 IsEvent (Nonce nonce) = nonce < 2 ^ 32
-IsEvent (Datagram from bytes) = Unit {0}
 IsEvent (Open name group filter) = IsFilter filter
 IsEvent (Change name filter) = IsFilter filter
-IsEvent (Close name) = Unit {0}
-IsEvent LeaveAll = Unit {0}
+IsEvent event = Unit {0}
 
 -- the event may happen to a gateway of these settings
 pub record MayHappen (settings : GatewaySettings) (event : GatewayEvent) : Type 0 where

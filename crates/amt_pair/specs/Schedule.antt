@@ -135,23 +135,16 @@ course_of setup schedule = fold (with_pair_event setup) (start setup) schedule
 -- the event may come: a socket call of a gateway that was added, as its settings allow, and a packet of at
 -- most 65,535 octets
 abbrev pub MayCome : List Host → PairEvent → Type 0
-MayCome hosts (MomentForAll at) = Unit {0}
-MayCome hosts (SecretComes secret) = Unit {0}
 MayCome hosts (PacketComes bytes) = length bytes ≤ 65535
 MayCome hosts (Socket name event) =
     (is_some (call_in event) ≡ true) × (host : Host) × Contains hosts host × (host.name ≡ name) × IsEventOf host.settings event
-MayCome hosts (Up number) = Unit {0}
-MayCome hosts (Down number) = Unit {0}
+MayCome hosts event = Unit {0}
 
 -- the numbers in a socket call fit their fields, and the sources of its filter ascend, as in each value of the
 -- type of events
 abbrev pub FitsItsType : PairEvent → Type 0
-FitsItsType (MomentForAll at) = Unit {0}
-FitsItsType (SecretComes secret) = Unit {0}
-FitsItsType (PacketComes bytes) = Unit {0}
 FitsItsType (Socket name event) = IsEvent event
-FitsItsType (Up number) = Unit {0}
-FitsItsType (Down number) = Unit {0}
+FitsItsType event = Unit {0}
 
 -- an event of a schedule
 pub record IsPairEvent (hosts : List Host) (event : PairEvent) : Type 0 where

@@ -1,6 +1,6 @@
 -- What a gateway sent, with where it stood then, and the report that it carries.
 use Rattle.std.specs.Prelude.{ℕ, Bool, List, [], ◌∷◌, ◌++◌, reverse, map, Option, Some, None, Result, Ok, Err}
-use Rattle.amt_messages.specs.declared.message.Message.{Message, TheVariants.{Discovery, Advertisement, Request, Query, Update, Multicast, Teardown}}
+use Rattle.amt_messages.specs.declared.message.Message.{Message, TheVariants.{Update}}
 use Rattle.source_filter.specs.declared.record.Record.{Record}
 use Rattle.socket_merge.specs.History.{AcceptedCall}
 use Rattle.gateway_machine.specs.{declared.{event.GatewayEvent.{GatewayEvent}, exchange.Exchange.{Exchange}, settings.GatewaySettings.{GatewaySettings}}, Answers.{history_after}, Runs.{Run, answer_in, run_of}, Sends.{Sending}, Timing.{farewell_ms}}
@@ -51,13 +51,8 @@ report_by (Ok records) sent = Some (record {
 
 -- the report in a message, if it is an Update with one
 abbrev pub report_with : Message → Sent → Option SentReport
-report_with (Discovery nonce) sent = None
-report_with (Advertisement nonce relay) sent = None
-report_with (Request v6 nonce) sent = None
-report_with (Query limited mac nonce inner seen) sent = None
 report_with (Update mac nonce inner) sent = report_by (report_in inner) sent
-report_with (Multicast packet) sent = None
-report_with (Teardown mac nonce gateway) sent = None
+report_with message sent = None
 
 -- the report that a message carried, if it was an Update with one
 abbrev pub report_of : Sent → Option SentReport

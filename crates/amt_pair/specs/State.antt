@@ -1,12 +1,8 @@
 -- What a pair stands for.
 use Rattle.std.specs.{Prelude.{◌≡◌, ◌≢◌, ℕ, List, [], ◌∷◌, ◌++◌, length, map, All, None}, List.{flat_map}}
 use Rattle.gateway_machine.specs.declared.event.GatewayEvent.{GatewayEvent, TheVariants.{Moment as Passes}}
-use Rattle.relay_machine.specs.{Answers.{RelayAt, settings_of as relay_settings_of}, declared.{event.Event.TheVariants.{Moment}, settings.Settings.{Settings}}}
+use Rattle.relay_machine.specs.{Answers.{RelayAt}, declared.event.Event.TheVariants.{Moment}}
 use Rattle.amt_pair.specs.{Members.{AreMembersAt, host_of, kept_upward}, Parts.{gateway_parts, relay_step}, Schedule.{Course, IsPairEvent, Member, course_of, upwards_on, with_gateway_event, with_relay_event}, Setup.{Host, IsLawfulSetup, PairSetup}, declared.{event.PairEvent.{PairEvent, TheVariants.{Moment as MomentForAll}}, pair.Pair.{Pair}, step.Part.{Part, TheVariants.{Relay}}}}
-
--- what the relay of a pair was set up with
-abbrev pub relay_settings : Pair → Settings
-relay_settings pair = relay_settings_of pair.relay
 
 -- the gateways of a pair, in the order in which they were added
 abbrev pub hosts_of : Pair → List Host

@@ -1,4 +1,4 @@
-use Rattle.amt_pair.proofs.{AgreedRows.{rows-forwarded}, BothEnds.{now-agree}}
+use Rattle.amt_pair.proofs.BothEnds.{now-agree, rows-forwarded}
 use Rattle.amt_pair.proofs.agreement.both_ends_agree.Goals as goal
 
 pub returns-clause-forwarded : goal.returns-clause-forwarded

@@ -1,6 +1,6 @@
 use Rattle.std.proofs.Common.{◌≡◌, [], ◌∙◌}
 use Rattle.relay_machine.specs.Answers.{sends_of}
-use Rattle.amt_pair.proofs.{PairSame.{same_pair}, PairStates.{down_more, on_err_by}, RelaySteps.{sender_change, sender_payload}}
+use Rattle.amt_pair.proofs.{PairStates.{down_more, on_err_by, same_pair}, RelaySteps.{sender_change, sender_payload}}
 use Rattle.amt_pair.proofs.pair.Pair.take_at_relay.Goals as goal
 
 pub returns-in_err-keep_copies-clause-err : goal.returns-in_err-keep_copies-clause-err
