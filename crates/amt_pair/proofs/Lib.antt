@@ -2,7 +2,6 @@ pub mod AcceptedCalls
 pub mod AgreedRows
 pub mod Alone
 pub mod BothEnds
-pub mod ChangeLimits
 pub mod CourseLog
 pub mod CourseSteps
 pub mod Courses
@@ -13,6 +12,7 @@ pub mod HeardQueries
 pub mod Hosts
 pub mod HostsApart
 pub mod InterfaceFilters
+pub mod KeptCalls
 pub mod Listed
 pub mod ListedHosts
 pub mod MadeGood
@@ -27,12 +27,10 @@ pub mod PairSame
 pub mod PairStates
 pub mod PeerReports
 pub mod QueryTimes
-pub mod RawReports
 pub mod ReadQueries
 pub mod ReadReports
 pub mod RelayAnswers
 pub mod RelayEntries
-pub mod ReportLimits
 pub mod ReportedAddresses
 pub mod ReportedRecords
 pub mod RunTurns
