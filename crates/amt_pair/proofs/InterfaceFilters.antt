@@ -1,11 +1,11 @@
 -- The filter of a group for all sockets: its sources are such as those of the sockets are, and it is known by
 -- the change records.
-use Rattle.std.{proofs.{Common.{◌≡◌, not, ◌||◌, Bool, true, false, List, [], ◌∷◌, ◌++◌, filter, refl, sym, ◌∙◌}, lemmas.List.Elements.{All-cons, All-filter, All-head, All-map, All-nil, All-tail, All-weaker}}, specs.List.{All}}
+use Rattle.std.{proofs.{Common.{◌≡◌, not, false, List, [], ◌∷◌, ◌++◌, sym, ◌∙◌}, lemmas.{Bool.{or_parts}, List.Elements.{All-cons, All-filter, All-head, All-map, All-nil, All-tail}}}, specs.List.{All}}
 use Rattle.amt_values.{specs.{Order.{ip_order}, declared.address.Ip.{Ip}, Ascending.{IsAscending, has, intersection}}, proofs.{Orders.{ip_order-total}, AscendingLaws.{IsAscending-ascending, IsAscending-filter, has-append}}}
-use Rattle.source_filter.{specs.{Changes.{changes_on}, Filter.{FilterValue, nothing, wants_any_by}, Merging.{all_sources, common_sources, exclude_list, exclude_lists, include_lists, intersection_of, merged, merged_by, union_of}, declared.mode.Mode.{Mode, TheVariants.{Include, Exclude}}}, proofs.AppliedChanges.{changes-applied}}
+use Rattle.source_filter.{specs.{Changes.{changes_on}, Filter.{FilterValue, nothing}, Merging.{all_sources, common_sources, exclude_list, exclude_lists, include_lists, intersection_of, merged, merged_by, union_of}, declared.mode.Mode.{Mode, TheVariants.{Include, Exclude}}}, proofs.AppliedChanges.{changes-applied}}
 use Rattle.group_records.specs.declared.family.Family.{Family}
 use Rattle.socket_merge.{specs.{History.{AcceptedCall, Socket, group_opened, groups_opened, open_sockets}, Interface.{filters_on, interface, on_group, same_group}}, proofs.{RawOctets.{unwanted}, ShortChanges.{changes-itself as changes-same}}}
-use Rattle.amt_pair.proofs.{AcceptedCalls.{AreAccepted}, OpenSockets.{HaveFilters, IsFilterOf, IsSocketOf, sockets-of}}
+use Rattle.amt_pair.proofs.{AcceptedCalls.{AreAccepted}, MadeGood.{unwanted-nothing}, OpenSockets.{HaveFilters, IsFilterOf, IsSocketOf, sockets-of}}
 
 -- ---- merged filters ascend
 
@@ -44,39 +44,25 @@ module _ (family : Family) (history : List AcceptedCall) (accepted : AreAccepted
   -- the filters of a group's sockets are such as sockets have
   pub filters-of : (group : Ip) → All (IsFilterOf family) (filters_on group (open_sockets history))
   filters-of group =
-      let all = sockets-of family history accepted filters in
-      let sockets = on_group group (open_sockets history) in
-      let own = All-filter (λ (socket : Socket). same_group group socket.group) (IsSocketOf family) (open_sockets history) all in
-      All-map (IsFilterOf family) (λ (socket : Socket). socket.filter) sockets
-      (All-weaker (IsSocketOf family) (λ socket. IsFilterOf family socket.filter) (λ socket is. is.filter) sockets own)
+      let own = All-filter (λ (socket : Socket). same_group group socket.group) (IsSocketOf family) (open_sockets history) (sockets-of family history accepted filters) in
+      All-map (IsFilterOf family) (λ (socket : Socket). socket.filter) (on_group group (open_sockets history)) (λ k socket below. (own k socket below).filter)
 
   pub interface-ascends : (group : Ip) → Ascends (interface history group).sources
   interface-ascends group =
-      ascending-merged (filters_on group (open_sockets history))
-      (All-weaker (IsFilterOf family) HasAscending (λ filter is. is.is.ascending) (filters_on group (open_sockets history)) (filters-of group))
+      ascending-merged (filters_on group (open_sockets history)) (λ k filter below. (filters-of group k filter below).is.ascending)
 
 -- ---- a group that was never opened
 
-nothing-by : (mode : Mode) (sources : List Ip) → wants_any_by mode sources ≡ false → record { mode = mode; sources = sources } ≡ nothing
-nothing-by Include [] none = refl
-nothing-by Include (source ∷ more) none = absurd cc
-nothing-by Exclude sources none = absurd cc
-
 -- nothing is wanted of a group that no socket was opened of
 pub interface-unopened : (history : List AcceptedCall) (group : Ip) → has ip_order (groups_opened history) group ≡ false → interface history group ≡ nothing
-interface-unopened history group none =
-    let filter = interface history group in nothing-by filter.mode filter.sources (unwanted history group none)
-
-none_later : (first second : Bool) → (first || second) ≡ false → second ≡ false
-none_later true second none = absurd cc
-none_later false second none = none
+interface-unopened history group none = unwanted-nothing (interface history group) (unwanted history group none)
 
 -- and none before
 pub unopened-before : (newest : AcceptedCall) (older : List AcceptedCall) (group : Ip) → has ip_order (groups_opened (newest ∷ older)) group ≡ false
     → has ip_order (groups_opened older) group ≡ false
 unopened-before newest older group none =
-    none_later (has ip_order (group_opened newest.call) group) (has ip_order (groups_opened older) group)
-    (sym (has-append ip_order (group_opened newest.call) (groups_opened older) group) ∙ none)
+    (or_parts (has ip_order (group_opened newest.call) group) (has ip_order (groups_opened older) group)
+    (sym (has-append ip_order (group_opened newest.call) (groups_opened older) group) ∙ none)).1
 
 -- ---- filters by their change records
 

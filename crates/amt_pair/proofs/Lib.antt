@@ -1,7 +1,6 @@
 pub mod AcceptedCalls
 pub mod Alone
 pub mod BothEnds
-pub mod ChangeLimits
 pub mod CourseSteps
 pub mod Courses
 pub mod Deliveries
@@ -13,6 +12,7 @@ pub mod Hosts
 pub mod HostsApart
 pub mod InterfaceFilters
 pub mod KeptFarewells
+pub mod KeptCalls
 pub mod Listed
 pub mod MadeGood
 pub mod MembersAt
@@ -22,12 +22,10 @@ pub mod OpenSockets
 pub mod PairStates
 pub mod PeerReports
 pub mod QueryTimes
-pub mod RawReports
 pub mod ReadQueries
 pub mod ReadReports
 pub mod RelayEntries
 pub mod RelaySteps
-pub mod ReportLimits
 pub mod ReportedAddresses
 pub mod ReportedRecords
 pub mod SilentEntries

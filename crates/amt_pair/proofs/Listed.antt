@@ -1,6 +1,6 @@
 -- Items of lists: where they stand, and what a list of them comes to with one more at its end.
-use Rattle.std.proofs.Common.{◌≡◌, ℕ, zero, suc, ◌-◌, ◌⊎◌, nat_lt, Bool, true, false, cond, List, [], ◌∷◌, ◌++◌, reverse, slice_get, All, Contains, Option, Some, None, refl, sym, ap, subst, ◌∙◌, arith, inl, inr}
-use Rattle.std.{proofs.lemmas.List.{append-nil, reverse-append, Elements.{All-cons, All-nil, Contains-append_cases, Contains-append_left, Contains-append_right, filter-append}}, specs.List.{cons_option, filter, filter_map}}
+use Rattle.std.proofs.{Common.{◌≡◌, ℕ, zero, suc, ◌+◌, ◌-◌, ◌⊎◌, nat_lt, Bool, true, false, cond, List, [], ◌∷◌, ◌++◌, drop, get_or, reverse, slice_get, take, All, Contains, Option, Some, None, refl, sym, ap, subst, ◌∙◌, arith, inl, inr, take-append-drop}, lemmas.{List.{append-nil, at_drop_more, reverse-append, Elements.{Contains-append_cases, Contains-append_left, Contains-append_right, Contains-get_or, Contains-push, filter-append, filter_map-append}}, Option.{get_or_from_slice_get, slice_get_within}}}
+use Rattle.std.specs.List.{cons_option, filter, filter_map}
 use Rattle.gateway_machine.specs.Laws.{last_of}
 use Rattle.amt_pair.specs.Schedule.{numbered}
 
@@ -27,11 +27,12 @@ module _ {X : Type 0} where
     pub whole : xs ≡ before ++ x ∷ after
 
   pub split-at : (xs : List X) (x : X) → Contains xs x → IsSplit xs x
-  split-at [] x among = absurd (none-in x among)
-  split-at (first ∷ more) x among = elim (first-is first x more among) [
-    | inl is ↦ record { before = []; after = more; whole = ap (λ (one : X). one ∷ more) is }
-    | inr later ↦ let rest = split-at more x later in record { before = first ∷ rest.before; after = rest.after; whole = ap (λ (all : List X). first ∷ all) rest.whole }
-  ]
+  split-at xs x (place, below, is) = record {
+    before = take place xs;
+    after = drop (place + 1) xs;
+    whole = sym (take-append-drop place xs) ∙ at_drop_more (λ (rest : List X). take place xs ++ rest) xs place x below
+        ∙ ap (λ (one : X). take place xs ++ one ∷ drop (place + 1) xs) is;
+  }
 
   -- an item is one of those before, the one between, or one of those after
   pub middle-cases : (before after : List X) (x y : X) → Contains (before ++ x ∷ after) y → Contains before y ⊎ ((x ≡ y) ⊎ Contains after y)
@@ -41,33 +42,28 @@ module _ {X : Type 0} where
   ]
 
   pub All-from_contains : (P : X → Type 0) (xs : List X) → ((x : X) → Contains xs x → P x) → All P xs
-  All-from_contains P [] each = All-nil P
-  All-from_contains P (x ∷ xs) each =
-      All-cons P x xs (each x (Contains-first x xs)) (All-from_contains P xs (λ y among. each y (Contains-later x y xs among)))
+  All-from_contains P xs each = λ k d below. each (get_or xs k d) (Contains-get_or xs k d below)
 
   pub reverse-cons : (x : X) (xs : List X) → reverse (x ∷ xs) ≡ reverse xs ++ x ∷ []
   reverse-cons x xs = reverse-append (x ∷ []) xs
 
   pub Contains-reverse : (xs : List X) (x : X) → Contains xs x → Contains (reverse xs) x
-  Contains-reverse [] x among = absurd (none-in x among)
-  Contains-reverse (first ∷ more) x among = subst (λ (all : List X). Contains all x) (sym (reverse-cons first more)) (elim (first-is first x more among) [
-    | inl is ↦ Contains-append_right (reverse more) (first ∷ []) x (0, omega arith, is)
-    | inr later ↦ Contains-append_left (reverse more) (first ∷ []) x (Contains-reverse more x later)
-  ])
+  Contains-reverse xs x among =
+      let split = split-at xs x among in
+      subst (λ (all : List X). Contains all x) (sym (ap (λ (all : List X). reverse all) split.whole ∙ reverse-append split.before (x ∷ split.after)))
+      (Contains-append_left (reverse (x ∷ split.after)) (reverse split.before) x
+      (subst (λ (all : List X). Contains all x) (sym (reverse-cons x split.after)) (Contains-push (reverse split.after) x)))
 
   -- ---- the item of a number
-
-  slice_get-among : (xs : List X) (place : ℕ) (x : X) → slice_get xs place ≡ Some x → Contains xs x
-  slice_get-among [] place x is = cc
-  slice_get-among (first ∷ more) zero x is = (0, omega arith, cc)
-  slice_get-among (first ∷ more) (suc place) x is = Contains-later first x more (slice_get-among more place x is)
 
   numbered-by : (test : Bool) (found : Option X) (x : X) → cond test found None ≡ Some x → found ≡ Some x
   numbered-by true found x is = is
   numbered-by false found x is = cc
 
   pub numbered-among : (xs : List X) (number : ℕ) (x : X) → numbered xs number ≡ Some x → Contains xs x
-  numbered-among xs number x is = slice_get-among xs (number - 1) x (numbered-by (nat_lt 0 number) (slice_get xs (number - 1)) x is)
+  numbered-among xs number x is =
+      let found = numbered-by (nat_lt 0 number) (slice_get xs (number - 1)) x is in
+      (number - 1, slice_get_within xs (number - 1) x found, get_or_from_slice_get xs (number - 1) x x found)
 
   -- ---- the last item
 
@@ -90,17 +86,9 @@ module _ {X : Type 0} where
       ∙ ap (last_of None) (filter-append test (reverse older) (x ∷ []))
       ∙ last-by (test x) (filter test (reverse older)) x
 
-module _ {X Y : Type 0} (f : X → Option Y) where
-  found-first : (found : Option Y) (y : Y) (ys : List Y) → found ≡ Some y → Contains (cons_option found ys) y
-  found-first found y ys is = subst (λ (one : Option Y). Contains (cons_option one ys) y) (sym is) (Contains-first y ys)
-
-  found-later : (found : Option Y) (y : Y) (ys : List Y) → Contains ys y → Contains (cons_option found ys) y
-  found-later None y ys among = among
-  found-later (Some other) y ys among = Contains-later other y ys among
-
-  pub Contains-filter_map : (xs : List X) (x : X) (y : Y) → Contains xs x → f x ≡ Some y → Contains (filter_map f xs) y
-  Contains-filter_map [] x y among is = absurd (none-in x among)
-  Contains-filter_map (first ∷ more) x y among is = elim (first-is first x more among) [
-    | inl same ↦ found-first (f first) y (filter_map f more) (ap f same ∙ is)
-    | inr later ↦ found-later (f first) y (filter_map f more) (Contains-filter_map more x y later is)
-  ]
+pub Contains-filter_map : {X Y : Type 0} (f : X → Option Y) (xs : List X) (x : X) (y : Y) → Contains xs x → f x ≡ Some y → Contains (filter_map f xs) y
+Contains-filter_map {X} {Y} f xs x y among is =
+    let split = split-at xs x among in
+    subst (λ (all : List Y). Contains all y) (sym (ap (filter_map f) split.whole ∙ filter_map-append f split.before (x ∷ split.after)))
+    (Contains-append_right (filter_map f split.before) (filter_map f (x ∷ split.after)) y
+    (subst (λ (found : Option Y). Contains (cons_option found (filter_map f split.after)) y) (sym is) (0, omega arith, refl)))

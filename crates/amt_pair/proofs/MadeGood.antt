@@ -1,6 +1,6 @@
 -- How full reports make good what was said of a group before: as long as farewells last from its moment, they
 -- name the group, unless it was said that the group is left.
-use Rattle.std.proofs.{Common.{◌≡◌, ◌≢◌, ℕ, ◌+◌, ◌<◌, ◌≤◌, min, Bool, true, false, cond, List, [], ◌∷◌, All, Option, Some, None, refl, sym, ap, ◌∙◌, arith}, lemmas.{Bool.{ltb-false}, List.Elements.{All-cons, All-nil, All-same}}}
+use Rattle.std.proofs.{Common.{◌≡◌, ◌≢◌, ℕ, ◌+◌, ◌<◌, ◌≤◌, min, Bool, true, false, cond, List, [], ◌∷◌, All, Option, Some, None, refl, sym, ap, ◌∙◌, arith}, lemmas.{Bool.{cond-false, ltb-false}, List.Elements.{All-cons, All-nil, All-same}}}
 use Rattle.amt_values.specs.declared.address.Ip.{Ip}
 use Rattle.source_filter.specs.{Changes.{changes_on}, Filter.{FilterValue, admits, nothing, wants_any, wants_any_by}, declared.mode.Mode.{Mode, TheVariants.{Include, Exclude}}, declared.record.Record.{Record}}
 use Rattle.socket_merge.specs.{FullReport.{farewell, full_on, is_recent, longest_farewell, states}, History.{AcceptedCall}, Interface.{interface, is_wanted, left_at}}
@@ -32,8 +32,9 @@ pub unnamed : (history : List AcceptedCall) (at keep : ℕ) (group : Ip) → ful
 unnamed history at keep group none =
     unnamed_by (is_wanted history group) (is_recent at keep (left_at history group)) (states group (interface history group)) (farewell group) none
 
-named_by : (wanted recent : Bool) (state bye : Record) → wanted ≡ false → recent ≡ false → cond wanted (state ∷ []) (cond recent (bye ∷ []) []) ≡ []
-named_by wanted recent state bye unwanted gone = rw (unwanted, gone) refl
+-- nothing is said where neither is so
+pub unsaid : (wanted recent : Bool) (state bye : List Record) → wanted ≡ false → recent ≡ false → cond wanted state (cond recent bye []) ≡ []
+unsaid wanted recent state bye unwanted gone = cond-false wanted state (cond recent bye []) unwanted ∙ cond-false recent bye [] gone
 
 left_before : (wanted before : Bool) (later at keep : ℕ) (left : Option ℕ) → wanted ≡ false → is_recent at keep (cond wanted None (cond before (Some later) left)) ≡ false
     → at < later + min keep longest_farewell → (before ≡ false) × (is_recent at keep left ≡ false)
@@ -47,8 +48,7 @@ pub unnamed-call : (newest : AcceptedCall) (history : List AcceptedCall) (at kee
 unnamed-call newest history at keep group none within =
     let now = unnamed (newest ∷ history) at keep group none in
     let before = left_before (is_wanted (newest ∷ history) group) (is_wanted history group) newest.moment at keep (left_at history group) now.0 now.1 within in
-    let onward = named_by (is_wanted history group) (is_recent at keep (left_at history group)) (states group (interface history group)) (farewell group) before.0 before.1 in
-    (now.0, before.0, onward)
+    (now.0, before.0, unsaid (is_wanted history group) (is_recent at keep (left_at history group)) (states group (interface history group) ∷ []) (farewell group ∷ []) before.0 before.1)
 
 -- a full report names each group that a call of its moment changed
 pub full_on-changed : (newest : AcceptedCall) (history : List AcceptedCall) (at keep : ℕ) (group : Ip) → at < newest.moment + min keep longest_farewell
@@ -84,7 +84,7 @@ pub IsMadeGood-full : (history : List AcceptedCall) (moment now keep : ℕ) (gro
 IsMadeGood-full history moment now keep group at longer none within =
     full_leaves (is_wanted history group) (is_recent now keep (left_at history group)) (states group (interface history group)) group (unnamed history at longer group none).0
 
-changes-none : (old new : FilterValue) (group : Ip) → old ≡ nothing → new ≡ nothing → changes_on old new group ≡ []
+pub changes-none : (old new : FilterValue) (group : Ip) → old ≡ nothing → new ≡ nothing → changes_on old new group ≡ []
 changes-none old new group before after =
     ap (λ (filter : FilterValue). changes_on filter new group) before ∙ ap (λ (filter : FilterValue). changes_on nothing filter group) after
 

@@ -1,5 +1,5 @@
 -- What is read of the octets that spell a message: it is of the message's own type.
-use Rattle.std.proofs.{Common.{◌≡◌, ℕ, ◌%◌, ◌<◌, ◌≤◌, ◌^◌, ◌||◌, Bool, true, false, if◌then◌else◌, List, [], ◌++◌, drop, length, slice_index, Option, Some, None, Ok, refl, sym, ap, subst, ◌∙◌, arith, length-take-le, length-drop, append-nil, append_assoc}, Math.Nat.{div-eq_of_lt, mod-lt}, lemmas.List.{drop-drop, drop_at}}
+use Rattle.std.proofs.{Common.{◌≡◌, ℕ, ◌%◌, ◌<◌, ◌≤◌, ◌^◌, Bool, true, false, if◌then◌else◌, List, [], ◌++◌, drop, length, slice_index, take, Option, Some, None, Ok, refl, sym, ap, subst, ◌∙◌, arith, length-take-le, length-drop, append-nil, append_assoc}, Math.Nat.{div-eq_of_lt, mod-lt}, lemmas.{Bool.{or_parts}, List.{drop-drop, drop_at}}}
 use Rattle.byteorder.specs.{Endian.{big_bytes, big_number}, Numbers.{big_from-bytes, length-bytes_high_first}}
 use Rattle.amt_values.specs.{Address.{IsAddress, has_ipv4_prefix, is_compatible, is_mapped, number_of}, Endpoint.{endpoint_of}, EndpointValue.{EndpointValue}, declared.{address.Ip.{Ip, TheVariants.{V4, V6}}, mac.Mac48.{Mac48}, peer.Peer.{Peer}}}
 use Rattle.amt_messages.{specs.{Layout.{Spells, spelling_of}, Messages.{IsGateway}, Refusal.{message_of}, declared.message.Message.{Message, TheVariants.{Discovery, Advertisement, Request, Query, Update, Multicast, Teardown}}}, proofs.Unrefused.{read_is_spelled}}
@@ -16,24 +16,15 @@ kind_of (Multicast packet) = 6
 kind_of (Teardown mac nonce gateway) = 7
 
 spelled-kind : (message : Message) (bytes : List ℕ) → Spells message bytes → slice_index bytes 0 ≡ kind_of message
-spelled-kind (Discovery nonce) bytes spells = spells.kind.first
 spelled-kind (Advertisement nonce (V4 address)) bytes spells = spells.kind.first
 spelled-kind (Advertisement nonce (V6 address)) bytes spells = spells.kind.first
-spelled-kind (Request v6 nonce) bytes spells = spells.kind.first
-spelled-kind (Query limited mac nonce inner None) bytes spells = spells.kind.first
 spelled-kind (Query limited mac nonce inner (Some endpoint)) bytes spells = spells.0.kind.first
-spelled-kind (Update mac nonce inner) bytes spells = spells.kind.first
-spelled-kind (Multicast packet) bytes spells = spells.kind.first
-spelled-kind (Teardown mac nonce gateway) bytes spells = spells.kind.first
+spelled-kind (Query limited mac nonce inner None) bytes spells = spells.kind.first
+spelled-kind message bytes spells = spells.kind.first
 
 spelling-kind : (message : Message) → slice_index (spelling_of message) 0 ≡ kind_of message
 spelling-kind (Discovery nonce) = refl
-spelling-kind (Advertisement nonce relay) = refl
-spelling-kind (Request v6 nonce) = refl
-spelling-kind (Query limited mac nonce inner seen) = refl
-spelling-kind (Update mac nonce inner) = refl
-spelling-kind (Multicast packet) = refl
-spelling-kind (Teardown mac nonce gateway) = refl
+spelling-kind message = refl
 
 -- what is read of a spelling is of the type that was written
 pub same-kind : (written read : Message) → message_of (spelling_of written) ≡ Ok read → kind_of written ≡ kind_of read
@@ -46,12 +37,7 @@ request-nonce (Request written_v6 written) v6 nonce kind field =
     let small : written % 256 ^ 4 < 256 ^ 4 = mod-lt written (omega arith) in
     let whole : nonce ≡ written % 256 ^ 4 = field ∙ back in
     omega arith
-request-nonce (Discovery written) v6 nonce kind field = absurd (omega arith)
-request-nonce (Advertisement written relay) v6 nonce kind field = absurd (omega arith)
-request-nonce (Query limited mac written inner seen) v6 nonce kind field = absurd (omega arith)
-request-nonce (Update mac written inner) v6 nonce kind field = absurd (omega arith)
-request-nonce (Multicast packet) v6 nonce kind field = absurd (omega arith)
-request-nonce (Teardown mac written gateway) v6 nonce kind field = absurd (omega arith)
+request-nonce written v6 nonce kind field = absurd (omega arith)
 
 pub small-nonce : (written : Message) (v6 : Bool) (nonce : ℕ) → message_of (spelling_of written) ≡ Ok (Request v6 nonce) → nonce < 2 ^ 32
 small-nonce written v6 nonce is =
@@ -68,17 +54,15 @@ update-inner mac other nonce other_nonce inner other_inner six is =
     let after_nonce : drop 12 bytes ≡ inner = sym (drop-drop 4 8 bytes) ∙ (ap (drop 4) after_mac ∙ drop_at (big_bytes 4 nonce) inner 4 (length-bytes_high_first 4 nonce)) in
     (read_is_spelled bytes (Update other other_nonce other_inner) is).inner_field ∙ after_nonce
 
+six-octets : (mac : Mac48) (bytes : List ℕ) → 12 ≤ length bytes → mac.0 ≡ take 6 (drop 2 bytes) → length mac.0 ≡ 6
+six-octets mac bytes enough field =
+    ap (λ (octets : List ℕ). length octets) field ∙ length-take-le 6 (drop 2 bytes) (omega (arith, length-drop 2 bytes))
+
 -- the MAC of a Query has six octets
 pub query-mac : (limited : Bool) (mac : Mac48) (nonce : ℕ) (inner : List ℕ) (seen : Option EndpointValue) (bytes : List ℕ) → Spells (Query limited mac nonce inner seen) bytes
     → length mac.0 ≡ 6
-query-mac limited mac nonce inner None bytes spells =
-    let size = spells.kind.octets in
-    let rest : 6 ≤ length (drop 2 bytes) = omega (arith, length-drop 2 bytes) in
-    ap (λ (octets : List ℕ). length octets) spells.mac_field ∙ length-take-le 6 (drop 2 bytes) rest
-query-mac limited mac nonce inner (Some endpoint) bytes spells =
-    let size = spells.0.kind.octets in
-    let rest : 6 ≤ length (drop 2 bytes) = omega (arith, length-drop 2 bytes) in
-    ap (λ (octets : List ℕ). length octets) spells.0.mac_field ∙ length-take-le 6 (drop 2 bytes) rest
+query-mac limited mac nonce inner None bytes spells = six-octets mac bytes (let size = spells.kind.octets in omega arith) spells.mac_field
+query-mac limited mac nonce inner (Some endpoint) bytes spells = six-octets mac bytes (let size = spells.0.kind.octets in omega arith) spells.0.mac_field
 
 -- ---- the endpoint of a peer
 
@@ -86,13 +70,9 @@ number-fits : (ip : Ip) → IsAddress ip → number_of ip < 2 ^ 128
 number-fits (V4 number) small = omega arith
 number-fits (V6 number) small = small
 
-second-false : (one other : Bool) → (one || other) ≡ false → other ≡ false
-second-false true other is = absurd cc
-second-false false other is = is
-
 unmapped : (ip : Ip) → IsAddress ip → has_ipv4_prefix ip ≡ false → is_mapped (number_of ip) ≡ false
 unmapped (V4 number) small apart = let high = div-eq_of_lt small in rw high refl
-unmapped (V6 number) small apart = second-false (is_compatible number) (is_mapped number) apart
+unmapped (V6 number) small apart = (or_parts (is_compatible number) (is_mapped number) apart).1
 
 abbrev tunnel_at : Peer → EndpointValue
 tunnel_at peer = record { address = number_of peer.ip; port = peer.port }

@@ -1,13 +1,13 @@
 -- The reports among what a gateway sends with an event.
-use Rattle.std.{proofs.{Common.{◌≡◌, ℕ, ◌≤◌, Bool, true, false, List, [], ◌∷◌, ◌++◌, map, reverse, Option, Some, None, Ok, refl, ap, ◌∙◌}, lemmas.List.{map-append, Elements.{All-weaker, filter_map-append}}}, specs.List.{All, filter_map}}
+use Rattle.std.{proofs.{Common.{◌≡◌, ℕ, ◌≤◌, Bool, true, false, List, [], ◌∷◌, ◌++◌, map, reverse, Option, Some, None, Ok, refl, ap, ◌∙◌}, lemmas.List.{map-append, Elements.{filter_map-append}}}, specs.List.{All, filter_map}}
 use Rattle.amt_values.specs.{EndpointValue.{EndpointValue}, declared.{mac.Mac48.{Mac48}, peer.Peer.{Peer}}}
-use Rattle.amt_messages.specs.declared.message.Message.TheVariants.{Request, Teardown, Update}
+use Rattle.amt_messages.specs.declared.message.Message.TheVariants.{Request, Teardown}
 use Rattle.source_filter.specs.declared.record.Record.{Record}
-use Rattle.group_records.specs.{Written.{HasFittingAddresses, IsOfFamily, report_length}, declared.family.Family.{Family}}
+use Rattle.group_records.specs.{Written.{report_length}, declared.family.Family.{Family}}
 use Rattle.socket_merge.specs.{Changes.{change_records}, History.{AcceptedCall, latest}}
-use Rattle.gateway_machine.specs.{Reports.{full_records, report_datagram, same_endpoint, teardown, teardown_by, teardown_if, update, update_by}, Sends.{Sending, to_relay}, Settings.{HasSourceOfFamily, family_of}, Timing.{farewell_ms}, declared.{exchange.{Exchange.{Exchange}, LastQuery.{LastQuery}}, settings.GatewaySettings.{GatewaySettings}}}
+use Rattle.gateway_machine.specs.{Reports.{full_records, report_datagram, same_endpoint, teardown, teardown_by, teardown_if, update}, Sends.{Sending, to_relay}, Settings.{HasSourceOfFamily, family_of}, Timing.{farewell_ms}, declared.{exchange.{Exchange.{Exchange}, LastQuery.{LastQuery}}, settings.GatewaySettings.{GatewaySettings}}}
 use Rattle.relay_machine.specs.Updates.{report_in}
-use Rattle.amt_pair.{specs.Sent.{Sent, SentReport, report_of}, proofs.{AcceptedCalls.{AreAccepted}, ChangeLimits.{short-change}, OpenSockets.{HaveFilters}, ReadReports.{report_in-report_datagram}, ReportLimits.{short_reports}, ReportedAddresses.{MayStand, changed-may_stand, full-may_stand}, Tunnel.{see, send}}}
+use Rattle.amt_pair.{specs.Sent.{Sent, SentReport, report_of}, proofs.{AcceptedCalls.{AreAccepted}, KeptCalls.{short-change, short-full}, OpenSockets.{HaveFilters}, ReadReports.{report_in-report_datagram}, ReportedAddresses.{MayStand, changed-may_stand, full-may_stand}, Tunnel.{see, send}}}
 
 -- the reports among these messages, in order, by the exchange and the socket calls after the event
 abbrev pub reports_in : Exchange → List AcceptedCall → List Sending → List SentReport
@@ -44,11 +44,10 @@ changed-may_be_sent settings newest older accepted filters =
 pub full-may_be_sent : (settings : GatewaySettings) (exchange : Exchange) (history : List AcceptedCall) → AreAccepted (family_of settings) history → HaveFilters history
     → latest history ≤ exchange.moment → MayBeSent (family_of settings) (full_records settings exchange history)
 full-may_be_sent settings exchange history accepted filters early =
-    let family = family_of settings in
     let keep = farewell_ms exchange.query in
     record {
-      each = full-may_stand family history exchange.moment keep accepted filters;
-      short = short_reports family history exchange.moment keep accepted early;
+      each = full-may_stand (family_of settings) history exchange.moment keep accepted filters;
+      short = short-full (family_of settings) history exchange.moment keep accepted early;
     }
 
 -- ---- what is read of an Update
@@ -56,10 +55,7 @@ full-may_be_sent settings exchange history accepted filters early =
 read-back : (settings : GatewaySettings) (records : List Record) → HasSourceOfFamily settings → MayBeSent (family_of settings) records
     → report_in (report_datagram settings.source records) ≡ Ok records
 read-back settings records own may =
-    let family = family_of settings in
-    report_in-report_datagram family settings.source records own
-    (All-weaker (MayStand family) (IsOfFamily family) (λ one is. is.own) records may.each)
-    (All-weaker (MayStand family) HasFittingAddresses (λ one is. is.fit) records may.each) may.short
+    report_in-report_datagram (family_of settings) settings.source records own (λ k one below. (may.each k one below).own) (λ k one below. (may.each k one below).fit) may.short
 
 module _ (exchange : Exchange) (history : List AcceptedCall) where
   -- two lists of messages
@@ -68,25 +64,12 @@ module _ (exchange : Exchange) (history : List AcceptedCall) where
       let sent : Sending → Sent = λ sending. record { sending = sending; exchange = exchange; history = history } in
       ap (filter_map report_of) (map-append sent sends more) ∙ filter_map-append report_of (map sent sends) (map sent more)
 
-  reports-to_relay : (relay : Option Peer) (peer : Peer) (mac : Mac48) (nonce : ℕ) (inner : List ℕ) (full : Bool) (first : Record) (more : List Record) → relay ≡ Some peer
-      → report_in inner ≡ Ok (first ∷ more) → reports_in exchange history (to_relay relay full (Update mac nonce inner)) ≡ reported exchange history full (first ∷ more)
-  reports-to_relay relay peer mac nonce inner full first more known read = rw (known, read) refl
-
-  reports-update_of : (settings : GatewaySettings) (query : LastQuery) (full : Bool) (records : List Record) → HasSourceOfFamily settings
-      → (peer : Peer) × (exchange.relay ≡ Some peer) → MayBeSent (family_of settings) records
-      → reports_in exchange history (update_by (Some query) settings exchange full records) ≡ reported exchange history full records
-  reports-update_of settings query full [] own known may = refl
-  reports-update_of settings query full (first ∷ more) own known may =
-      reports-to_relay exchange.relay known.0 query.mac query.nonce (report_datagram settings.source (first ∷ more)) full first more known.1
-      (read-back settings (first ∷ more) own may)
-
   -- an Update is read back as the report of its records
   pub reports-update : (settings : GatewaySettings) (full : Bool) (records : List Record) → HasSourceOfFamily settings → (peer : Peer) × (exchange.relay ≡ Some peer)
       → (query : LastQuery) × (exchange.query ≡ Some query) → MayBeSent (family_of settings) records
       → reports_in exchange history (update settings exchange full records) ≡ reported exchange history full records
-  reports-update settings full records own known kept may =
-      ap (λ (query : Option LastQuery). reports_in exchange history (update_by query settings exchange full records)) kept.1
-      ∙ reports-update_of settings kept.0 full records own known may
+  reports-update settings full [] own known kept may = rw kept.1 refl
+  reports-update settings full (first ∷ more) own known kept may = rw (kept.1, known.1, read-back settings (first ∷ more) own may) refl
 
   -- ---- messages without a report
 

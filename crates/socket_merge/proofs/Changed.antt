@@ -82,7 +82,7 @@ changes-of_call family before after history at call then now =
 
 -- ---- whose records they are
 
-All-walked : (P : Record → Type 0) (Such : Ip → Type 0) (f : Ip → List Record) (groups : List Ip) → All Such groups → ((group : Ip) → Such group → All P (f group)) → All P (flat_map f groups)
+pub All-walked : (P : Record → Type 0) (Such : Ip → Type 0) (f : Ip → List Record) (groups : List Ip) → All Such groups → ((group : Ip) → Such group → All P (f group)) → All P (flat_map f groups)
 All-walked P Such f [] all each = All-nil P
 All-walked P Such f (group ∷ more) all each =
     All-append P (f group) (flat_map f more) (each group (All-head Such group more all)) (All-walked P Such f more (All-tail Such group more all) each)
@@ -140,7 +140,7 @@ module _ (P : Record → Type 0) (group : Ip) (Such : Ip → Type 0) (one : (kin
   All-changes_by Exclude Include sources others these those = All-cons P (record { kind = ToIn; group = group; sources = others }) [] (one ToIn others those) (All-nil P)
 
   -- what holds of each record of the group whose sources are such holds of its change records
-  All-changes_on : (old new : FilterValue) → All Such old.sources → All Such new.sources → All P (changes_on old new group)
+  pub All-changes_on : (old new : FilterValue) → All Such old.sources → All Such new.sources → All P (changes_on old new group)
   All-changes_on old new these those = All-changes_by old.mode new.mode old.sources new.sources these those
 
 All-any : (sources : List Ip) → All (λ source. source ≡ source) sources

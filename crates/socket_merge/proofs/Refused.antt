@@ -43,7 +43,7 @@ pub refusal-unknown : (at : ℕ) (name : List ℕ) (filter : FilterValue) (histo
 unfolding refusal_of
 refusal-unknown at name filter history none = ap (λ (found : Option Socket). first_holding (change_conditions found (with_call at (Change name filter) history))) none
 
-opened_before : (history : List AcceptedCall) (name : List ℕ) (socket : Socket) → IsNamed name socket (open_sockets history) → has ip_order (groups_opened history) socket.group ≡ true
+pub opened_before : (history : List AcceptedCall) (name : List ℕ) (socket : Socket) → IsNamed name socket (open_sockets history) → has ip_order (groups_opened history) socket.group ≡ true
 opened_before history name socket named =
     let tally = tally_of None socket.group (open_sockets history) in
     let counts = Counts-of tally socket.group (open_sockets history) refl in

@@ -142,7 +142,7 @@ All-flat_map : (P : Record → Type 0) (f : Ip → List Record) (groups : List I
 All-flat_map P f [] all = All-nil P
 All-flat_map P f (group ∷ more) all = All-append P (f group) (flat_map f more) (all group) (All-flat_map P f more all)
 
-All-said : (P : Record → Type 0) (of wanted lasts : Bool) (group : Ip) (filter : FilterValue) → (of ≡ true → wanted ≡ true → P (states group filter)) → (of ≡ true → lasts ≡ true → P (farewell group))
+pub All-said : (P : Record → Type 0) (of wanted lasts : Bool) (group : Ip) (filter : FilterValue) → (of ≡ true → wanted ≡ true → P (states group filter)) → (of ≡ true → lasts ≡ true → P (farewell group))
     → All P (said_by of wanted lasts group filter)
 All-said P false wanted lasts group filter state left = All-nil P
 All-said P true true lasts group filter state left = All-cons P (states group filter) [] (state refl refl) (All-nil P)

@@ -46,7 +46,7 @@ blank-from tally is =
     λ i. record { sockets = sockets i; wanting = wanting i; sources = sources i; left = left i }
 
 -- what needs no entry has a blank tally
-needless : (tally : Tally) → is_kept tally ≡ false → blank ≡ tally
+pub needless : (tally : Tally) → is_kept tally ≡ false → blank ≡ tally
 needless tally is = sym (blank-from tally (by (is_blank tally) is))
   where
     by : (b : Bool) → not b ≡ false → b ≡ true
