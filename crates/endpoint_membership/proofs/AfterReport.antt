@@ -1,5 +1,5 @@
 -- The memberships of an endpoint after its report are those by the log with the report.
-use Rattle.std.{proofs.{Common.{◌≡◌, ℕ, ◌≤◌, ◌<◌, true, if◌then◌else◌, List, [], ◌∷◌, Option, Some, None, refl, sym, ap, subst, ◌∙◌}, lemmas.{Cmp.{tied_itself}, Map.Views.{tells_apart}}}, specs.Ordering.{is_eq}}
+use Rattle.std.{proofs.{Common.{◌≡◌, ℕ, ◌≤◌, ◌<◌, if◌then◌else◌, List, [], ◌∷◌, Option, Some, None, refl, sym, ap, subst, ◌∙◌}, lemmas.{Cmp.{tied_itself}, Map.Views.{tells_apart}}}, specs.Ordering.{is_eq}}
 use Rattle.amt_values.{specs.{declared.address.Ip.{Ip}, EndpointValue.{EndpointValue}, Ascending.{IsAscending}}, proofs.Orders.{endpoint_order-exact, endpoint_order-total}}
 use Rattle.source_filter.specs.{Filter.{FilterValue, filter_after_all}, declared.mode.Mode.{Mode, TheVariants.{Include, Exclude}}, declared.record.Record.{Record}}
 use Rattle.endpoint_membership.specs.{declared.{change.Change.{Change, TheVariants.{Reported}}, after_report.RenewedFilter.{RenewedFilter}}, Membership.{Membership, is_fresh, membership_order}, Stored.{only}}

@@ -2,7 +2,7 @@
 use Rattle.std.proofs.{Common.{◌≡◌, ◌==◌, ◌&&◌, ◌||◌, Bool, true, false, not, cond, filter, map, Option, Some, None, IsSome, is_some, IfNone, IfSome, List, [], ◌∷◌, refl, sym, ap, ◌∙◌, arith}, lemmas.{Bool.{and_parts, Decides.{nat_tests}}, Cmp.{tied_itself}}}
 use Rattle.std.specs.{Bool.{then_some}, BTreeSet.{BTreeSet, keys_between}, List.Sorted.{IsStrictlySortedBy}, Ordering.{is_eq}, declared.{cmp.Ordering.{Ordering}, ops.Bound.TheVariants.{Included, Unbounded}}}
 use Rattle.amt_values.{specs.{declared.address.Ip.{Ip, TheVariants.{V4}}, EndpointValue.{EndpointValue}, Ascending.{IsAscending, has}}, proofs.{Orders.{endpoint_order-total}, AscendingLaws.{has-filter}}}
-use Rattle.endpoint_membership.specs.{EndpointGroup.{EndpointGroup, endpoint_group_order, same_endpoint, same_endpoint_group}, Membership.{Membership, endpoint_group_of, membership_order}, Memberships.{membership_in}, Stored.{is_of_another, only}}
+use Rattle.endpoint_membership.specs.{EndpointGroup.{EndpointGroup, endpoint_group_order, same_endpoint}, Membership.{Membership, endpoint_group_of, membership_order}, Memberships.{membership_in}, Stored.{is_of_another, only}}
 use Rattle.endpoint_membership.proofs.{AfterEntries.{same_endpoint-exact}, EndpointGroupOrder.{endpoint_group_order-exact, endpoint_group_order-total}, MembershipIn.{has-pairs, GivesItsEndpointGroup-membership_in, all_where, only_where}, OwnFilters.{in_range, none_past, pair, within}}
 
 not_other : (test : Bool) → not test ≡ false → test ≡ true

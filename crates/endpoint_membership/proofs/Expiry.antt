@@ -1,9 +1,9 @@
 -- Memberships in the order of their renewals.
-use Rattle.std.proofs.{Common.{◌≡◌, ℕ, zero, suc, ◌+◌, ◌<◌, ◌≤◌, Bool, true, false, cond, not, nat_lt, List, [], ◌∷◌, length, filter, Option, Some, None, IsSome, IfNone, ◌↔◌, refl, ap, subst, ◌∙◌, arith}, lemmas.Bool.{eq-eqb, eqb-true, Decides.{nat_tests}}}
+use Rattle.std.proofs.{Common.{◌≡◌, ℕ, zero, suc, ◌+◌, ◌<◌, ◌≤◌, Bool, true, false, nat_lt, List, [], ◌∷◌, length, filter, Option, Some, None, IsSome, IfNone, ◌↔◌, refl, ap, subst, ◌∙◌, arith}, lemmas.Bool.{eq-eqb, eqb-true, Decides.{nat_tests}}}
 use Rattle.std.{proofs.lemmas.Map.Keys.{le_from_not_gt}, specs.{BTreeSet.{BTreeSet}, List.{list_any}, Ordering.{is_eq, is_gt, nat_cmp, ordering_then}, declared.cmp.Ordering.{Ordering, TheVariants.{Less, Equal, Greater}}}}
 use Rattle.std.specs.BTreeSet as sorted
 use Rattle.amt_values.{specs.Ascending.{IsAscending}, proofs.AscendingLaws.{IsAscending-filter}}
-use Rattle.endpoint_membership.specs.{EndpointGroup.{EndpointGroup, endpoint_group_order}, Membership.{Membership, is_fresh, membership_order}, Memberships.{membership_in}, Parts.{is_renewed_at, is_stored, renewal_order}}
+use Rattle.endpoint_membership.specs.{EndpointGroup.{endpoint_group_order}, Membership.{Membership, is_fresh, membership_order}, Memberships.{membership_in}, Parts.{is_renewed_at, is_stored, renewal_order}}
 use Rattle.endpoint_membership.{specs.{Stored.{only}, declared.keys.LastRenewal.{LastRenewal}}, proofs.MembershipIn.{membership_in-filter, same_rows}}
 
 pub IfNone-from : {T : Type 0} {P : Type 0} (found : Option T) → P → IfNone found P

@@ -1,7 +1,7 @@
 -- Applying records one by one leaves the filter that they make together.
 use Rattle.std.proofs.{Common.{◌≡◌, Bool, true, false, not, ◌&&◌, ◌||◌, if◌then◌else◌, List, [], ◌∷◌, ◌++◌, reverse, filter, refl, sym, ap, ◌∙◌}, lemmas.{Bool.{or_parts}, Grind.{reverse_onto}, List.{append_assoc}}}
-use Rattle.amt_values.{specs.{declared.address.Ip.{Ip}, Order.{ip_order}, Ascending.{IsAscending}}, proofs.{Orders.{ip_order-total, ip_order-exact}, AscendingLaws.{IsAscending-ascending, has-append, has-difference, has-filter, has-union, same_ascending}}}
-use Rattle.source_filter.specs.{Filter.{FilterValue, admits, admits_by, filter_after, filter_after_all, mode_after, nothing, sources_after}, Record.{is_full, lists, says, says_by, speaks}, declared.mode.Mode.{Mode}}
+use Rattle.amt_values.{specs.{declared.address.Ip.{Ip}, Order.{ip_order}, Ascending.{IsAscending}}, proofs.{Orders.{ip_order-total, ip_order-exact}, AscendingLaws.{IsAscending-ascending, has-append, has-filter, same_ascending}}}
+use Rattle.source_filter.specs.{Filter.{FilterValue, admits, admits_by, filter_after, filter_after_all, mode_after, nothing}, Record.{is_full, lists, says, says_by, speaks}, declared.mode.Mode.{Mode}}
 use Rattle.source_filter.{specs.{declared.mode.Mode.TheVariants.{Include, Exclude}, declared.record.{Record.{Record}, RecordKind.{RecordKind, TheVariants.{IsIn, Allow, Block}}}}, proofs.FilterAfter.{IsAscending-filter_after, admits-filter_after, lists-ascending}}
 use Rattle.endpoint_membership.specs.GroupFilter.{records_admit, counted_sources, excludes, is_counted_source, is_excluding, named_sources, filter_of}
 

@@ -1,11 +1,11 @@
 -- The groups of one endpoint, as a map of filters, as memberships, and as the pairs of which nothing is wanted.
 use Rattle.std.proofs.{Common.{◌≡◌, ℕ, Bool, true, false, cond, ◌&&◌, List, [], ◌∷◌, ◌++◌, filter, Option, Some, None, refl, sym, ap, subst, ◌∙◌, append-nil, not, ◌||◌, map, is_some, if◌then◌else◌, true≢false}}
-use Rattle.std.proofs.lemmas.{Cmp.{eq_by_cmp_equiv, tied_itself}, List.Elements.{filter-append, filter_map-append}, Map.{Keys.{sorted_head, sorted_tail, IsDistinct-from_sorted}, Views.{tells_apart}, Entries.{lookup-filter-values, option_filter}, Made.{is_some-lookup}}, Bool.{and_parts, and_right}}
-use Rattle.std.specs.{BTreeMap.{BTreeMap, Updates, get, is_at, IsOrdered}, List.{Sorted.{IsStrictlySortedBy}, AllByRecursion, cons_option, filter_map}, Map.{keys_of, lookup}, Option.{option_or}, Ordering.{is_eq, ordering_reverse, eq_by_cmp}, declared.cmp.Ordering.{TheVariants.{Less}, Ordering}}
+use Rattle.std.proofs.lemmas.{Cmp.{eq_by_cmp_equiv, tied_itself}, List.Elements.{filter_map-append}, Map.{Keys.{sorted_head, sorted_tail, IsDistinct-from_sorted}, Views.{tells_apart}, Entries.{lookup-filter-values, option_filter}, Made.{is_some-lookup}}, Bool.{and_parts, and_right}}
+use Rattle.std.specs.{BTreeMap.{BTreeMap, Updates, get, is_at, IsOrdered}, List.{Sorted.{IsStrictlySortedBy}, AllByRecursion, cons_option, filter_map}, Map.{keys_of, lookup}, Option.{option_or}, Ordering.{is_eq, eq_by_cmp}, declared.cmp.Ordering.{TheVariants.{Less}, Ordering}}
 use Rattle.amt_values.{specs.{declared.address.Ip.{Ip}, Order.{ip_order}, EndpointValue.{EndpointValue}, Ascending.{IsAscending, has}}, proofs.Orders.{ip_order-exact, ip_order-total, endpoint_order-total, endpoint_order-exact}}
 use Rattle.source_filter.specs.{Filter.{FilterValue, wants_any}, declared.record.Record.{Record}}
 use Rattle.endpoint_membership.specs.{Membership.{Membership, is_fresh, membership_order, endpoint_group_of}, Stored.{only}, declared.after_report.RenewedFilter.{RenewedFilter}, EndpointMemberships.{AreOf, membership_of_entry, membership_of_renewed, renewed_filter_after, renewed_filter_after_all, renewed_filter_of, AreGone, gone_of_entry}, Log.{on_group}}
-use Rattle.endpoint_membership.specs.{EndpointGroup.{EndpointGroup, endpoint_group_order, same_endpoint, same_group, same_endpoint_group}, Memberships.{membership_in}}
+use Rattle.endpoint_membership.specs.{EndpointGroup.{EndpointGroup, endpoint_group_order, same_endpoint, same_group}, Memberships.{membership_in}}
 use Rattle.endpoint_membership.proofs.{MembershipsByLog.{AreAfter-cons_option, IsAscending-cons_option, membership_by, membership_in-cons_option}, MembershipIn.{AreAfter, membership_in-after}, EndpointGroupOrder.{same_endpoint_group-is}}
 
 pub same_group-back : (one other : Ip) → same_group one other ≡ same_group other one

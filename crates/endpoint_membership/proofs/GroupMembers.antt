@@ -1,8 +1,8 @@
 -- The endpoints of a group that get a packet, by the group's members.
-use Rattle.std.proofs.{Common.{◌≡◌, ℕ, ◌+◌, ◌<◌, ◌≤◌, Bor, Bool, true, false, cond, ◌&&◌, ◌||◌, List, [], ◌∷◌, ◌++◌, map, filter, length, nat_lt, Option, Some, None, is_some, refl, sym, ap, subst, ◌∙◌, arith}, lemmas.{Bool.{and_left, and_parts}, Cmp.{eq_by_cmp_equiv, tied_itself}}}
+use Rattle.std.proofs.{Common.{◌≡◌, ℕ, ◌+◌, ◌<◌, Bor, Bool, true, false, cond, ◌&&◌, ◌||◌, List, [], ◌∷◌, ◌++◌, map, filter, length, nat_lt, Option, Some, None, is_some, refl, sym, ap, subst, ◌∙◌, arith}, lemmas.{Bool.{and_left, and_parts}, Cmp.{eq_by_cmp_equiv, tied_itself}}}
 use Rattle.std.{proofs.lemmas.{List.{append-nil, length-append, map-append, Elements.{filter-append}}, Map.{Iter.{rest_so_far}, Made.{is_some-lookup}, Views.{All-turn}, Lookups.{CmpEqualImpliesEq}}}, specs.BTreeMap.{BTreeMap, IsOrdered, get, is_at, keys}}
 use Rattle.std.specs.{BTreeMap.Range.{IsEntryInRange, IsRangeOf, entries_between, range_contains}, Iterator.{Yields}, List.{AllByRecursion, Sorted.{IsStrictlySortedBy}}, Map.{keys_of, Iter.{TakesFirst, deref_pair}}, Ordering.{is_eq, is_le, nat_cmp, ordering_then}, declared.{cmp.Ordering.{Ordering, TheVariants.{Less, Equal, Greater}}, ops.Bound.TheVariants.{Included, Unbounded}}}
-use Rattle.amt_values.{specs.{declared.address.Ip.{Ip}, Order.{endpoint_order, ip_order}, EndpointValue.{EndpointValue}, Ascending.{has, IsAscending}}, proofs.{Orders.{both_tied, endpoint_order-exact, endpoint_order-total, ip_order-exact, ip_order-total}, AscendingLaws.{Equal-from_test, IsAscending-filter, has-filter}}}
+use Rattle.amt_values.{specs.{declared.address.Ip.{Ip}, Order.{endpoint_order, ip_order}, EndpointValue.{EndpointValue}, Ascending.{has, IsAscending}}, proofs.{Orders.{both_tied, endpoint_order-exact, ip_order-exact, ip_order-total}, AscendingLaws.{Equal-from_test, IsAscending-filter, has-filter}}}
 use Rattle.source_filter.specs.Filter.{admits}
 use Rattle.endpoint_membership.specs.{EndpointGroup.{EndpointGroup, same_group}, Filters.{group_member_order, membership_with, stored_membership}, Limits.{live_count}, Membership.{Membership}, Memberships.{membership_in}, Stored.{AreTargets, is_target, only}}
 use Rattle.endpoint_membership.{specs.declared.{keys.GroupMember.{GroupMember}, stored.StoredFilter.{StoredFilter}}, proofs.{KeptFilters.{some_with}, KeysTogether.{All-passing, filter-none, filter-wider, in_range-shares, least_number, others}, TargetsByLog.{is_some-cond, length-targets}}}

@@ -1,5 +1,5 @@
 -- The membership of a pair as entries come and time passes.
-use Rattle.std.proofs.{Common.{◌≡◌, ℕ, ◌+◌, ◌≤◌, ◌<◌, max, Bool, true, false, cond, ltb, not, if◌then◌else◌, List, [], ◌∷◌, ◌++◌, reverse, filter, Option, Some, None, refl, sym, ap, ◌∙◌, arith}, lemmas.Grind.{reverse_onto}}
+use Rattle.std.proofs.{Common.{◌≡◌, ℕ, ◌+◌, ◌≤◌, ◌<◌, Bool, true, false, cond, ltb, not, if◌then◌else◌, List, [], ◌∷◌, ◌++◌, reverse, filter, Option, Some, None, refl, sym, ap, ◌∙◌, arith}, lemmas.Grind.{reverse_onto}}
 use Rattle.amt_values.specs.{declared.address.Ip.{Ip}, EndpointValue.{EndpointValue}}
 use Rattle.source_filter.specs.{Filter.{FilterValue, admits, filter_after_all, nothing}, declared.mode.Mode.{Mode, TheVariants.{Include, Exclude}}, declared.record.Record.{Record}}
 use Rattle.endpoint_membership.specs.{declared.change.Change.{Change, TheVariants.{Reported, Clear}}, Membership.{Membership, is_fresh}, Admission.{is_admitted}, Stored.{only}, Log.{concerns, is_empty, latest, leaving, live_chain, on_group, records_at, renewed_at}, EndpointGroup.{EndpointGroup, same_endpoint}}

@@ -1,6 +1,6 @@
 -- The membership of a pair in lists of memberships that ascend.
 use Rattle.std.proofs.{Common.{◌≡◌, Bool, true, false, cond, ◌||◌, List, [], ◌∷◌, filter, map, Option, Some, None, is_some, unwrap_or, refl, sym, ap, ◌∙◌}, lemmas.Cmp.{tied_itself}}
-use Rattle.std.{proofs.lemmas.Map.{Keys.{sorted_head, sorted_tail}, Views.{tells_apart}}, specs.{List.{AllByRecursion, cons_option, filter_map, Sorted.{IsStrictlySortedBy}}, Ordering.{is_eq, ordering_reverse}, declared.cmp.Ordering.{Ordering, TheVariants.{Less}}}}
+use Rattle.std.{proofs.lemmas.Map.{Keys.{sorted_head, sorted_tail}, Views.{tells_apart}}, specs.{List.{AllByRecursion, cons_option, filter_map, Sorted.{IsStrictlySortedBy}}, Ordering.{is_eq, ordering_reverse}, declared.cmp.Ordering.{TheVariants.{Less}}}}
 use Rattle.amt_values.{specs.Ascending.{IsAscending, has}, proofs.AscendingLaws.{IsAscending-filter, same_ascending}}
 use Rattle.endpoint_membership.{specs.{Membership.{Membership, membership_order, endpoint_group_of}, Stored.{only}, EndpointGroup.{EndpointGroup, endpoint_group_order, same_endpoint_group}, Memberships.{membership_in}}, proofs.EndpointGroupOrder.{endpoint_group_order-exact, endpoint_group_order-total}}
 

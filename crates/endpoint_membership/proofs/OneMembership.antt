@@ -1,10 +1,10 @@
 -- The parts with one membership more, and with one less.
-use Rattle.std.proofs.{Common.{◌≡◌, ℕ, ◌+◌, ◌==◌, Bool, true, false, cond, ◌&&◌, List, Option, Some, None, refl, sym, ap, subst, ◌∙◌, arith}, lemmas.{Cmp.{eq_by_cmp_equiv}, Map.Steps.{list_any_congr}}}
+use Rattle.std.proofs.{Common.{◌≡◌, ℕ, ◌==◌, Bool, true, false, cond, ◌&&◌, List, Option, Some, None, refl, sym, ap, subst, ◌∙◌, arith}, lemmas.{Cmp.{eq_by_cmp_equiv}, Map.Steps.{list_any_congr}}}
 use Rattle.std.specs.{BTreeMap.{BTreeMap, get, is_at}, BTreeSet.{BTreeSet}, Cmp.{IsTotalOrder, tied_then, unsigned_ties}, Map.{lookup}, Ordering.{nat_cmp}, declared.cmp.Ordering.{Ordering}}
 use Rattle.std.specs.BTreeSet as sorted
 use Rattle.amt_values.specs.{EndpointValue.{EndpointValue}, Order.{endpoint_order}}
 use Rattle.endpoint_membership.specs.{EndpointGroup.{EndpointGroup, endpoint_group_order, same_endpoint, same_endpoint_group}, Filters.{IsSetAt, stored_membership}, Limits.{group_count}, Membership.{Membership}, Memberships.{membership_in}}
-use Rattle.endpoint_membership.specs.{Parts.{AreAgreed, HasNumber, is_renewed_at, is_stored, one_less, one_more, renewal_order, some_unless_zero}, declared.{keys.LastRenewal.{LastRenewal}, stored.StoredFilter.{StoredFilter}}}
+use Rattle.endpoint_membership.specs.{Parts.{AreAgreed, HasNumber, is_renewed_at, one_less, one_more, renewal_order}, declared.{keys.LastRenewal.{LastRenewal}, stored.StoredFilter.{StoredFilter}}}
 use Rattle.endpoint_membership.proofs.{CountedParts.{counted-less, counted-more}, MembershipIn.{same_endpoint_group-exact}, SetAt.{IsWith-set, IsWith-taken, sum_by-with}}
 
 abbrev Counts : Type 0

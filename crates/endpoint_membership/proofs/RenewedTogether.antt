@@ -198,14 +198,8 @@ settled_by true true true later none = rw (none refl) refl
 settled_by true true false later none = rw (none refl) refl
 settled_by true false true later none = rw (none refl) refl
 settled_by true false false later none = rw (none refl) refl
-settled_by false true true true none = refl
-settled_by false true true false none = refl
-settled_by false true false true none = refl
-settled_by false true false false none = refl
-settled_by false false true true none = refl
-settled_by false false true false none = refl
-settled_by false false false true none = refl
-settled_by false false false false none = refl
+settled_by false true old later none = rw (not_both old) (sym (without false (later || old)))
+settled_by false false old later none = rw (not_both old) (sym (without false (later || old)))
 
 -- the renewals are those of the rows and of the memberships that are left
 pub first_settled : (membership : Membership) (rest : List Membership) (before after : List Membership) (renewals left : BTreeSet LastRenewal) → IsAscending membership_order (membership ∷ rest)

@@ -4,9 +4,9 @@ use Rattle.std.{proofs.lemmas.{Bool.{lt-ltb, or_left, or_right}, Cmp.{eq_by_cmp_
 use Rattle.amt_values.{specs.{declared.address.Ip.{Ip}, EndpointValue.{EndpointValue}, Ascending.{IsAscending, has}}, proofs.{Orders.{endpoint_order-exact, endpoint_order-total}, AscendingLaws.{IsAscending-filter, has-append}}}
 use Rattle.source_filter.specs.{Filter.{FilterValue, filter_after_all, wants_any}, Record.{item_count}, declared.record.Record.{Record}}
 use Rattle.endpoint_membership.specs.{Membership.{Membership, is_fresh, membership_order, endpoint_group_of}, declared.limits.Limits.{Limits}, Stored.{only}}
-use Rattle.endpoint_membership.specs.{Limits.{IsWithin, first_limit, group_count, size}, EndpointMemberships.{AreGone, AreOf, AreOwn, filter_or_nothing, membership_of_renewed, renewed_filter_after_all, renewed_filter_of}, Log.{on_group}}
+use Rattle.endpoint_membership.specs.{Limits.{IsWithin, first_limit, group_count, size}, EndpointMemberships.{AreGone, AreOwn, filter_or_nothing, membership_of_renewed, renewed_filter_after_all, renewed_filter_of}, Log.{on_group}}
 use Rattle.endpoint_membership.{specs.{EndpointGroup.{EndpointGroup, endpoint_group_order, same_endpoint}, Memberships.{endpoint_groups_of, membership_in}, Table.{AreLawful}}, proofs.ReportBounds.{All-at, given_by, sources-filter_after_all, sum_by-on_group}}
-use Rattle.endpoint_membership.proofs.{EndpointGroupOrder.{endpoint_group_order-total}, MembershipsByLog.{membership_by, on_group-none}, MembershipIn.{has-pairs, All-from_membership_in, IsAscending-pairs, GivesItsEndpointGroup-membership_in, cond_by, membership_in-filter, membership_in-where}, AfterReport.{AreAfterReport, renewed_filter_after_all-is}, AfterEntries.{membership_in-of}, WithinLimits.{IsWithin-filter, IsWithin-report, on_none}}
+use Rattle.endpoint_membership.proofs.{EndpointGroupOrder.{endpoint_group_order-total}, MembershipsByLog.{membership_by, on_group-none}, MembershipIn.{has-pairs, All-from_membership_in, IsAscending-pairs, GivesItsEndpointGroup-membership_in, cond_by, membership_in-filter, membership_in-where}, AfterReport.{AreAfterReport, renewed_filter_after_all-is}, AfterEntries.{membership_in-of}, WithinLimits.{IsWithin-filter, IsWithin-report}}
 
 abbrev endpoint_group : EndpointValue → Ip → EndpointGroup
 endpoint_group endpoint group = record { endpoint = endpoint; group = group }

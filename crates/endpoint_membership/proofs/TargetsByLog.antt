@@ -3,7 +3,7 @@ use Rattle.std.proofs.{Common.{◌≡◌, ℕ, ◌≤◌, ◌↔◌, max, Bool, 
 use Rattle.std.proofs.lemmas.{List.{reverse-append}, Map.Views.{Contains-from_any, list_any-from_Contains, tells_apart}}
 use Rattle.amt_values.{specs.{declared.address.Ip.{Ip}, Order.{endpoint_order}, EndpointValue.{EndpointValue}, Ascending.{IsAscending, has, ascending}}, proofs.{Orders.{endpoint_order-exact, endpoint_order-total}, AscendingLaws.{IsAscending-filter, IsAscending-ascending, has-append, has-filter, has-ascending, same_ascending}}}
 use Rattle.source_filter.specs.{Filter.{admits}, declared.record.Record.{Record}}
-use Rattle.endpoint_membership.specs.{declared.change.Change.{Change, TheVariants.{Reported, Clear, Mark}}, Membership.{Membership, is_fresh, endpoint_group_of}, Admission.{is_admitted}, Stored.{AreTargets, is_target, only}, Limits.{live_count}, Log.{latest}}
+use Rattle.endpoint_membership.specs.{declared.change.Change.{Change, TheVariants.{Reported, Clear, Mark}}, Membership.{Membership, is_fresh}, Admission.{is_admitted}, Stored.{AreTargets, is_target, only}, Limits.{live_count}, Log.{latest}}
 use Rattle.endpoint_membership.specs.{EndpointGroup.{EndpointGroup, endpoint_group_order, same_endpoint, same_group, same_endpoint_group}, Memberships.{endpoint_groups_in, endpoint_groups_of, membership_in, membership_at}, Table.{AreMembershipsAt, Holds, TableValue, TableSettings}}
 use Rattle.endpoint_membership.{specs.Targets.{endpoints_in, targets_of}, proofs.{MembershipsByLog.{bare}, CountedLive.{endpoints_of, length-within}, FewRows.{All-own}, MembershipIn.{GivesItsEndpointGroup-membership_in}, ReportBounds.{All-at, given_by, some_by}, EndpointGroupOrder.{same_endpoint_group-is}, MembershipAt.{admits-none, admits-row, membership_at-later}}}
 

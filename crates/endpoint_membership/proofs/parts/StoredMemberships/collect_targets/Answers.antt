@@ -1,6 +1,6 @@
 use Rattle.std.{proofs.{Common.{true, false, List, ◌++◌, length, sym, ap, subst, ◌∙◌, arith}, lemmas.List.{append-nil}}, specs.{BTreeMap.{IsOrdered, keys}, Map.{keys_of}, declared.cmp.Ordering.{Ordering}}}
 use Rattle.amt_values.specs.EndpointValue.{EndpointValue}
-use Rattle.endpoint_membership.{specs.{Stored.{AreTargets}, declared.{keys.GroupMember.{GroupMember}, stored.StoredFilter.{StoredFilter}}}, proofs.{GroupMembers.{AreByGroup, AreTargets-table, decided, lets_in-kept, next_found, seen_members, targets_among, targets_among-end, targets_among-more, targets_among-room, targets_among-stop, walked}, PartOrders.{members_compared}}}
+use Rattle.endpoint_membership.{specs.{Stored.{AreTargets}, declared.{keys.GroupMember.{GroupMember}, stored.StoredFilter.{StoredFilter}}}, proofs.{GroupMembers.{AreByGroup, AreTargets-table, decided, lets_in-kept, next_found, seen_members, targets_among-end, targets_among-more, targets_among-room, targets_among-stop, walked}, PartOrders.{members_compared}}}
 use Rattle.endpoint_membership.proofs.parts.StoredMemberships.collect_targets.Goals as goal
 
 pub push-requires : goal.push-requires

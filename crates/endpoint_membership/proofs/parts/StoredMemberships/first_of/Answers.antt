@@ -1,6 +1,6 @@
-use Rattle.std.proofs.Common.{◌≡◌, List, ◌∷◌, IfNone, IfSome, IsSome, ap, sym, subst, filter, map, ◌∙◌}
-use Rattle.amt_values.specs.{declared.address.Ip.{Ip}, Ascending.{has}}
-use Rattle.endpoint_membership.{specs.{EndpointGroup.{EndpointGroup, endpoint_group_order}, Membership.{Membership, endpoint_group_of}, Memberships.{membership_in}, Stored.{is_of_another}}, proofs.{EndpointRange.{first_found, none_found, none_of}, Expiry.{IfNone-from}, OwnFilters.{pair}, PartOrders.{pairs_compared}, MembershipIn.{IsAscending-pairs}}}
+use Rattle.std.proofs.Common.{◌≡◌, List, ◌∷◌, IfNone, IfSome, IsSome, ap, sym, subst, filter, ◌∙◌}
+use Rattle.amt_values.specs.{Ascending.{has}}
+use Rattle.endpoint_membership.{specs.{EndpointGroup.{EndpointGroup, endpoint_group_order}, Membership.{Membership}, Memberships.{membership_in}, Stored.{is_of_another}}, proofs.{EndpointRange.{first_found, none_found, none_of}, Expiry.{IfNone-from}, OwnFilters.{pair}, PartOrders.{pairs_compared}, MembershipIn.{IsAscending-pairs}}}
 use Rattle.endpoint_membership.proofs.parts.StoredMemberships.first_of.Goals as goal
 
 pub returns-in_err-first-clause-none : goal.returns-in_err-first-clause-none

@@ -1,6 +1,6 @@
 use Rattle.std.{proofs.{Common.{◌≡◌, List, None, Some, sym, ap, subst, ◌∙◌}, lemmas.Map.Keys.{sorted_head, sorted_tail}}, specs.{Option.{option_or}, Vec.Iter.{into_iter_items}}}
 use Rattle.amt_values.specs.Ascending.{IsAscending}
-use Rattle.endpoint_membership.specs.{EndpointGroup.{EndpointGroup}, Filters.{IsSetAt, stored_membership}, Membership.{Membership, endpoint_group_of, membership_order}, Memberships.{membership_in}, Parts.{stored_filter}, declared.stored.StoredFilter.{StoredFilter}}
+use Rattle.endpoint_membership.specs.{EndpointGroup.{EndpointGroup}, Filters.{IsSetAt, stored_membership}, Membership.{Membership, membership_order}, Memberships.{membership_in}, Parts.{stored_filter}, declared.stored.StoredFilter.{StoredFilter}}
 use Rattle.endpoint_membership.proofs.{RenewedTogether.{first_put}, SetAt.{AreAbsent, absent_still, others_stay}}
 use Rattle.endpoint_membership.proofs.parts.StoredMemberships.insert_all.Goals as goal
 

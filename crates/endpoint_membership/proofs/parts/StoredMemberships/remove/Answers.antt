@@ -1,4 +1,4 @@
-use Rattle.std.{proofs.Common.{List, None, Some, false, refl, sym, subst, ap, ◌∙◌}, specs.{BTreeMap.{get}, declared.cmp.Ordering.{Ordering}}}
+use Rattle.std.{proofs.Common.{List, None, false, refl, sym, subst}, specs.{BTreeMap.{get}, declared.cmp.Ordering.{Ordering}}}
 use Rattle.std.specs.BTreeSet as sorted
 use Rattle.amt_values.specs.Order.{endpoint_order}
 use Rattle.endpoint_membership.{specs.{EndpointGroup.{EndpointGroup}, Filters.{IsSetAt}, Membership.{Membership}, Parts.{HasNumber, one_less, renewal_order}, declared.keys.LastRenewal.{LastRenewal}}, proofs.{OneMembership.{AreAgreed-less, AreAgreed-same}, PartOrders.{renewal_at, renewals_compared}, SetAt.{none_taken}}}

@@ -1,5 +1,5 @@
-use Rattle.std.{proofs.{Common.{false, sym, ap, subst, ◌∙◌, Some}, lemmas.Bool.{eqb-false, eqb-true, not-false, not-true}}, specs.BTreeSet.{contains}}
-use Rattle.endpoint_membership.{specs.{EndpointGroup.{EndpointGroup}, Filters.{IsSetAt, stored_membership}, Membership.{Membership, endpoint_group_of}, Parts.{renewal_order}, declared.{keys.LastRenewal.{LastRenewal}, stored.StoredFilter.{StoredFilter}}}, proofs.{PartOrders.{renewal_at}, RenewedTogether.{old_renewal_out, renewals_updated, same_renewal_stays}}}
+use Rattle.std.{proofs.{Common.{false, sym, ap, ◌∙◌}, lemmas.Bool.{eqb-false, eqb-true, not-false, not-true}}, specs.BTreeSet.{contains}}
+use Rattle.endpoint_membership.{specs.{Filters.{stored_membership}, Parts.{renewal_order}, declared.{keys.LastRenewal.{LastRenewal}, stored.StoredFilter.{StoredFilter}}}, proofs.{PartOrders.{renewal_at}, RenewedTogether.{old_renewal_out, renewals_updated, same_renewal_stays}}}
 use Rattle.endpoint_membership.proofs.parts.renew.put_membership.Goals as goal
 
 pub returns-then-ne-clause-renewals : goal.returns-then-ne-clause-renewals

@@ -1,6 +1,6 @@
 use Rattle.std.{proofs.Common.{◌≡◌, List, None, if◌then◌else◌, sym, ap, subst, ◌∙◌}, specs.Option.{option_or}}
 use Rattle.amt_values.{specs.Ascending.{IsAscending, has}, proofs.AscendingLaws.{IsAscending-filter}}
-use Rattle.endpoint_membership.specs.{Membership.{is_fresh, membership_order}, EndpointGroup.{EndpointGroup, endpoint_group_order}, Memberships.{membership_in}, Limits.{IsWithin}, EndpointMemberships.{AreGone, AreOwn}}
+use Rattle.endpoint_membership.specs.{Membership.{is_fresh, membership_order}, EndpointGroup.{EndpointGroup, endpoint_group_order}, Memberships.{membership_in}, EndpointMemberships.{AreGone, AreOwn}}
 use Rattle.endpoint_membership.{specs.Table.{Holds, IsWithinLimits, TableValue}, proofs.{AfterReport.{AreAfterReport}, HoldsAfter.{Holds-report, IsWithin-log, passed_is, unfit}, LimitByOwn.{first_limit_is, limit_by_own}, ReportFits.{AreAfterReport-set, IsWithin-reported, groups_fit, sizes_fit}}}
 use Rattle.endpoint_membership.proofs.table.Table.accept.Goals as goal
 
