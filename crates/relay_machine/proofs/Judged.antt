@@ -1,5 +1,5 @@
 -- What holds of each answer: when its entry was made, and which datagrams come to Updated and TornDown.
-use Rattle.std.proofs.{Common.{◌≡◌, ℕ, max, nat_lt, Bool, true, false, List, [], ◌∷◌, ◌++◌, reverse, length, Option, Some, None, Result, Ok, Err, if◌then◌else◌, refl, sym, ap, ◌∙◌, arith}, lemmas.{Bool.{cond_both}, List.{append-nil, reverse-append, reverse-reverse, Elements.{filter_map-append}, Sums.{fold-append}}}}
+use Rattle.std.proofs.{Common.{◌≡◌, ℕ, max, nat_lt, Bool, true, false, List, [], ◌∷◌, ◌++◌, reverse, length, Option, Some, None, Result, Ok, Err, refl, sym, ap, ◌∙◌, arith}, lemmas.{Bool.{cond_both}, List.{append-nil, reverse-append, reverse-reverse, Elements.{filter_map-append}, Sums.{fold-append}}}}
 use Rattle.std.specs.List.{fold, filter_map}
 use Rattle.amt_values.specs.{Endpoint.{endpoint_of}, EndpointValue.{EndpointValue}, Group.{is_forwardable}, declared.mac.Mac48.{Mac48}}
 use Rattle.amt_messages.specs.{Refusal.{message_of}, declared.{message.Message.{Message, TheVariants.{Teardown, Update}}, refusal.Refused.{Refused}}}
@@ -8,7 +8,7 @@ use Rattle.inner_datagrams.specs.{Head.{head_of}, declared.head.{Head.{Head}, He
 use Rattle.source_filter.specs.declared.record.Record.{Record}
 use Rattle.endpoint_membership.{specs.{Log.{brought, latest}, Memberships.{is_live}, Table.{TableSettings, limit_passed, memberships_now}, declared.{change.Change.{Change, TheVariants.{Mark, Reported}}, limits.LimitFault.{LimitFault}}}, proofs.HoldsAfter.{latest-push}}
 use Rattle.relay_machine.specs.declared.{event.Event.{Event, TheVariants.{Moment, Datagram, Packet, Rotate}}, outcome.{Outcome.{Outcome, TheVariants.{TornDown, Updated}}, Unlawful.{Unlawful}}, settings.Settings.{Settings}}
-use Rattle.relay_machine.specs.{Accepted.{accepted_back, accepted_log, entry_after, with_change}, EventAnswer.{EventAnswer, datagram_answer, event_answer, limited_answer, packet_answer, teardown_answer, update_answer}, Events.{moment_in, now_of, secrets_of}, Packets.{by_head, by_scope, head_to_copy, targets_at}, Settings.{table_settings_of}, Updates.{forwardable_records, report_in}}
+use Rattle.relay_machine.specs.{Accepted.{accepted_back, accepted_log, entry_after, with_change}, EventAnswer.{EventAnswer, datagram_answer, event_answer, limited_answer, packet_answer, teardown_answer, update_answer}, Events.{moment_in, now_of, secrets_of}, Packets.{by_head, by_scope, targets_at}, Settings.{table_settings_of}, Updates.{forwardable_records, report_in}}
 
 -- an entry, if there is one, is made at this moment
 abbrev pub IsMadeAt : ℕ → Option Change → Type 0

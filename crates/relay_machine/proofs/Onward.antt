@@ -1,5 +1,5 @@
 -- Where one more event leaves a relay.
-use Rattle.std.{proofs.{Common.{◌≡◌, ◌≤◌, ℕ, max, List, [], ◌∷◌, ◌++◌, Option, Result, Ok, Err, refl, sym, ap, subst, ◌∙◌}, Math.Logic.{∥∥₁_elim, ∥∥₁_map, ∥∥₁_prop}, Props.{props}, lemmas.List.{append-nil, reverse-append, reverse-reverse, Elements.{filter_map-append}}}, specs.{Coded.{le_prop}, List.{filter_map}, Result.{IfOk, OnErr}}}
+use Rattle.std.{proofs.{Common.{◌≡◌, ◌≤◌, ℕ, max, List, [], ◌∷◌, ◌++◌, Result, Ok, Err, refl, sym, ap, subst, ◌∙◌}, Math.Logic.{∥∥₁_elim, ∥∥₁_map, ∥∥₁_prop}, Props.{props}, lemmas.List.{append-nil, reverse-append, reverse-reverse, Elements.{filter_map-append}}}, specs.{Coded.{le_prop}, List.{filter_map}, Result.{IfOk, OnErr}}}
 use mathlib.Core.HLevel.{is_prop→PathP}
 use Rattle.response_mac.specs.{declared.{secret.Secret.{Secret}, secrets.Secrets.{Secrets}}, ResponseMac.{secrets_after}}
 use Rattle.endpoint_membership.specs.{Limits.{AreFew, IsWithin}, Log.{latest}, Table.{Holds, IsWithinLimits, TableValue, TableSettings, memberships_now}, Targets.{TargetsValue}}
