@@ -1,7 +1,7 @@
 //! A whole run of a gateway.
 ghost use Rattle.std.specs.Prelude.{◌≡◌, ◌≤◌, length};
-ghost use Rattle.amt_ports.specs.Devices.{WaitsBriefly, feed_seen, link_seen, out_seen, words_seen};
-ghost use Rattle.gateway_serving.specs.{Devices.{devices_seen}, Serving.{Serves}, Settings.{AreTurns, IsLawfulConfig}};
+ghost use Rattle.amt_ports.specs.Devices.{WaitsBriefly};
+ghost use Rattle.gateway_serving.specs.{Devices.{devices_seen, feed_at, link_at, out_at, words_at}, Serving.{Serves}, Settings.{AreTurns, IsLawfulConfig}};
 
 use crate::served::GatewayServed;
 use crate::server::Server;
@@ -29,12 +29,8 @@ pub fn serve_gateway<L: Link, F: Feed, O: OutLink, C: Clock, W: Words>(
     requires config { IsLawfulConfig config.now }
     requires turns { AreTurns turns }
     ensures serves { ∥ Serves config.now turns
-        (devices_seen (C.given clock.old) (words_seen (W.given words.old) (W.faults words.old))
-        (link_seen (L.coming link.old) (L.tried link.old) (L.receive_faults link.old) (L.send_faults link.old))
-        (feed_seen (F.coming control.old) (F.faults control.old)) (out_seen (O.tried out.old) (O.faults out.old)))
-        (devices_seen (C.given clock.new) (words_seen (W.given words.new) (W.faults words.new))
-        (link_seen (L.coming link.new) (L.tried link.new) (L.receive_faults link.new) (L.send_faults link.new))
-        (feed_seen (F.coming control.new) (F.faults control.new)) (out_seen (O.tried out.new) (O.faults out.new)))
+        (devices_seen (C.given clock.old) (words_at W.Words words.old) (link_at L.Link link.old) (feed_at F.Feed control.old) (out_at O.OutLink out.old))
+        (devices_seen (C.given clock.new) (words_at W.Words words.new) (link_at L.Link link.new) (feed_at F.Feed control.new) (out_at O.OutLink out.new))
         result ∥₁ }
 
     // No receiving is asked to wait for longer: a turn isn't held up by a device that has nothing.

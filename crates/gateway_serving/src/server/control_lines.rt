@@ -1,7 +1,7 @@
 //! How a running gateway takes socket calls from its control feed.
 ghost use Rattle.std.specs.Prelude.{◌≡◌, ◌≤◌, ◌-◌, ◌^◌, length, IsErrOf};
-ghost use Rattle.amt_ports.specs.{Bursts.{AreAsked, AskedSo, IsNext}, EndCauses.{IsCausedBy}, Devices.{WaitsBriefly, feed_seen, link_seen, out_seen}};
-ghost use Rattle.gateway_serving.specs.{Hearing.{HearsControlLine}, Servers.{AreFew, GrowsBy, HearsControl, at_control, at_work, family_in, latest_in}, Turns.{from_control}};
+ghost use Rattle.amt_ports.specs.{Bursts.{AreAsked, AskedSo, IsNext}, EndCauses.{IsCausedBy}, Devices.{WaitsBriefly}};
+ghost use Rattle.gateway_serving.specs.{Devices.{feed_at, link_at, out_at}, Hearing.{HearsControlLine}, Servers.{AreFew, GrowsBy, HearsControl, at_control, at_work, family_in, latest_in}, Turns.{from_control}};
 
 use super::Server;
 use amt_ports::{Asked, BURST, End, Feed, FeedGot, Link, OutLink, WAIT_MS};
@@ -20,10 +20,8 @@ impl Server {
     )
         requires few { AreFew (2 ^ 61 - 1) self.old }
         ensures lines { HearsControlLine line.now
-            (at_work self.old (link_seen (L.coming link.old) (L.tried link.old) (L.receive_faults link.old) (L.send_faults link.old))
-            (out_seen (O.tried out.old) (O.faults out.old)))
-            (at_work self.new (link_seen (L.coming link.new) (L.tried link.new) (L.receive_faults link.new) (L.send_faults link.new))
-            (out_seen (O.tried out.new) (O.faults out.new))) }
+            (at_work self.old (link_at L.Link link.old) (out_at O.OutLink out.old))
+            (at_work self.new (link_at L.Link link.new) (out_at O.OutLink out.new)) }
         ensures latest { latest_in self.new ≡ latest_in self.old }
         ensures coming { L.coming link.new ≡ L.coming link.old }
         ensures faults { L.receive_faults link.new ≡ L.receive_faults link.old }
@@ -52,14 +50,8 @@ impl Server {
         requires room { 65536 ≤ length buf.old }
         requires few { AreFew (2 ^ 61 - 1) self.old }
         ensures lines { AskedSo HearsControl
-            (at_control
-            (at_work self.old (link_seen (L.coming link.old) (L.tried link.old) (L.receive_faults link.old) (L.send_faults link.old))
-            (out_seen (O.tried out.old) (O.faults out.old)))
-            (feed_seen (F.coming control.old) (F.faults control.old)))
-            (at_control
-            (at_work self.new (link_seen (L.coming link.new) (L.tried link.new) (L.receive_faults link.new) (L.send_faults link.new))
-            (out_seen (O.tried out.new) (O.faults out.new)))
-            (feed_seen (F.coming control.new) (F.faults control.new)))
+            (at_control (at_work self.old (link_at L.Link link.old) (out_at O.OutLink out.old)) (feed_at F.Feed control.old))
+            (at_control (at_work self.new (link_at L.Link link.new) (out_at O.OutLink out.new)) (feed_at F.Feed control.new))
             (IsNext (from_control (family_in self.old)) result) }
         ensures latest { latest_in self.new ≡ latest_in self.old }
         ensures coming { L.coming link.new ≡ L.coming link.old }
@@ -94,14 +86,8 @@ impl Server {
         requires room { 65536 ≤ length buf.old }
         requires few { AreFew (2 ^ 61 - 64) self.old }
         ensures lines { AskedSo HearsControl
-            (at_control
-            (at_work self.old (link_seen (L.coming link.old) (L.tried link.old) (L.receive_faults link.old) (L.send_faults link.old))
-            (out_seen (O.tried out.old) (O.faults out.old)))
-            (feed_seen (F.coming control.old) (F.faults control.old)))
-            (at_control
-            (at_work self.new (link_seen (L.coming link.new) (L.tried link.new) (L.receive_faults link.new) (L.send_faults link.new))
-            (out_seen (O.tried out.new) (O.faults out.new)))
-            (feed_seen (F.coming control.new) (F.faults control.new)))
+            (at_control (at_work self.old (link_at L.Link link.old) (out_at O.OutLink out.old)) (feed_at F.Feed control.old))
+            (at_control (at_work self.new (link_at L.Link link.new) (out_at O.OutLink out.new)) (feed_at F.Feed control.new))
             (AreAsked (from_control (family_in self.old)) result) }
         ensures latest { latest_in self.new ≡ latest_in self.old }
         ensures coming { L.coming link.new ≡ L.coming link.old }

@@ -1,8 +1,8 @@
 //! How a running gateway hears its link.
 ghost use Rattle.std.specs.Prelude.{◌≡◌, ◌≤◌, ◌-◌, ◌^◌, [], ◌∷◌, length, IsErrOf, OnErr, OnOk};
 ghost use Rattle.gateway_machine.specs.declared.event.GatewayEvent.TheVariants.{Datagram as DatagramEvent};
-ghost use Rattle.amt_ports.specs.{Bursts.{AreAsked, AskedSo, IsNext}, EndCauses.{IsCausedBy}, Devices.{WaitsBriefly, link_seen, out_seen}};
-ghost use Rattle.gateway_serving.specs.{Hearing.{HearsOne}, Servers.{AreFew, GrowsBy, Hears, Takes, Tallies, at_work, counts_in, latest_in}, Turns.{from_link}};
+ghost use Rattle.amt_ports.specs.{Bursts.{AreAsked, AskedSo, IsNext}, EndCauses.{IsCausedBy}, Devices.{WaitsBriefly}};
+ghost use Rattle.gateway_serving.specs.{Devices.{link_at, out_at}, Hearing.{HearsOne}, Servers.{AreFew, GrowsBy, Hears, Takes, Tallies, at_work, counts_in, latest_in}, Turns.{from_link}};
 
 use super::Server;
 use amt_ports::{Asked, BURST, End, Got, Link, OutLink, WAIT_MS};
@@ -22,17 +22,10 @@ impl Server {
     ) -> Result<(), AllocError>
         requires short { length bytes.now ≤ 65535 }
         requires few { AreFew (2 ^ 61) self.old }
-        ensures takes { OnOk result (Takes
-            (at_work self.old (link_seen (L.coming link.old) (L.tried link.old) (L.receive_faults link.old) (L.send_faults link.old))
-            (out_seen (O.tried out.old) (O.faults out.old)))
-            (at_work self.new (link_seen (L.coming link.new) (L.tried link.new) (L.receive_faults link.new) (L.send_faults link.new))
-            (out_seen (O.tried out.new) (O.faults out.new)))
-            (DatagramEvent from bytes.now ∷ [])) }
-        ensures none { OnErr result (Takes
-            (at_work self.old (link_seen (L.coming link.old) (L.tried link.old) (L.receive_faults link.old) (L.send_faults link.old))
-            (out_seen (O.tried out.old) (O.faults out.old)))
-            (at_work self.new (link_seen (L.coming link.new) (L.tried link.new) (L.receive_faults link.new) (L.send_faults link.new))
-            (out_seen (O.tried out.new) (O.faults out.new))) []) }
+        ensures takes { OnOk result (Takes (at_work self.old (link_at L.Link link.old) (out_at O.OutLink out.old))
+            (at_work self.new (link_at L.Link link.new) (out_at O.OutLink out.new)) (DatagramEvent from bytes.now ∷ [])) }
+        ensures none { OnErr result (Takes (at_work self.old (link_at L.Link link.old) (out_at O.OutLink out.old))
+            (at_work self.new (link_at L.Link link.new) (out_at O.OutLink out.new)) []) }
         ensures tallies { Tallies (counts_in self.old) (counts_in self.new) 0 0 0 0 }
         ensures latest { latest_in self.new ≡ latest_in self.old }
         ensures coming { L.coming link.new ≡ L.coming link.old }
@@ -58,10 +51,8 @@ impl Server {
         requires short { length bytes.now ≤ 65535 }
         requires few { AreFew (2 ^ 61 - 1) self.old }
         ensures hears { HearsOne from bytes.now
-            (at_work self.old (link_seen (L.coming link.old) (L.tried link.old) (L.receive_faults link.old) (L.send_faults link.old))
-            (out_seen (O.tried out.old) (O.faults out.old)))
-            (at_work self.new (link_seen (L.coming link.new) (L.tried link.new) (L.receive_faults link.new) (L.send_faults link.new))
-            (out_seen (O.tried out.new) (O.faults out.new))) }
+            (at_work self.old (link_at L.Link link.old) (out_at O.OutLink out.old))
+            (at_work self.new (link_at L.Link link.new) (out_at O.OutLink out.new)) }
         ensures latest { latest_in self.new ≡ latest_in self.old }
         ensures coming { L.coming link.new ≡ L.coming link.old }
         ensures faults { L.receive_faults link.new ≡ L.receive_faults link.old }
@@ -85,10 +76,8 @@ impl Server {
         requires room { 65536 ≤ length buf.old }
         requires few { AreFew (2 ^ 61 - 1) self.old }
         ensures hears { AskedSo Hears
-            (at_work self.old (link_seen (L.coming link.old) (L.tried link.old) (L.receive_faults link.old) (L.send_faults link.old))
-            (out_seen (O.tried out.old) (O.faults out.old)))
-            (at_work self.new (link_seen (L.coming link.new) (L.tried link.new) (L.receive_faults link.new) (L.send_faults link.new))
-            (out_seen (O.tried out.new) (O.faults out.new)))
+            (at_work self.old (link_at L.Link link.old) (out_at O.OutLink out.old))
+            (at_work self.new (link_at L.Link link.new) (out_at O.OutLink out.new))
             (IsNext from_link result) }
         ensures latest { latest_in self.new ≡ latest_in self.old }
         ensures of_link { IsErrOf result End.FeedFault → ⊥ }
@@ -119,10 +108,8 @@ impl Server {
         requires room { 65536 ≤ length buf.old }
         requires few { AreFew (2 ^ 61 - 64) self.old }
         ensures hears { AskedSo Hears
-            (at_work self.old (link_seen (L.coming link.old) (L.tried link.old) (L.receive_faults link.old) (L.send_faults link.old))
-            (out_seen (O.tried out.old) (O.faults out.old)))
-            (at_work self.new (link_seen (L.coming link.new) (L.tried link.new) (L.receive_faults link.new) (L.send_faults link.new))
-            (out_seen (O.tried out.new) (O.faults out.new)))
+            (at_work self.old (link_at L.Link link.old) (out_at O.OutLink out.old))
+            (at_work self.new (link_at L.Link link.new) (out_at O.OutLink out.new))
             (AreAsked from_link result) }
         ensures latest { latest_in self.new ≡ latest_in self.old }
         ensures of_link { IsErrOf result End.FeedFault → ⊥ }

@@ -1,8 +1,8 @@
 //! How a running gateway begins: its machine, its first moment, and the joins of its settings.
 ghost use Rattle.std.specs.Prelude.{◌≡◌, ◌≤◌, ◌<◌, ◌+◌, ◌^◌, [], ◌∷◌, All, IfOk, OnErr, OnOk, length, map};
-ghost use Rattle.amt_ports.specs.{Told.{Appends}, Devices.{link_seen, out_seen}};
+ghost use Rattle.amt_ports.specs.Told.{Appends};
 ghost use Rattle.gateway_machine.specs.Events.{IsEventOf};
-ghost use Rattle.gateway_serving.specs.{Counting.{no_counts}, Events.{nonce_of}, Openings.{OpensSo}, Servers.{AreFew, GrowsBy, Takes, Tallies, at_work, counts_in, deliver_in, events_in, first_in, latest_in, settings_in}, Settings.{IsLawfulConfig, opening_of, settings_of}, Stages.{BeginsWith}};
+ghost use Rattle.gateway_serving.specs.{Devices.{link_at, out_at}, Counting.{no_counts}, Events.{nonce_of}, Openings.{OpensSo}, Servers.{AreFew, GrowsBy, Takes, Tallies, at_work, counts_in, deliver_in, events_in, first_in, latest_in, settings_in}, Settings.{IsLawfulConfig, opening_of, settings_of}, Stages.{BeginsWith}};
 
 use super::Server;
 use crate::counts::Counts;
@@ -64,17 +64,10 @@ impl Server {
     ) -> Result<(), AllocError>
         requires few { AreFew (2 ^ 61) self.old }
         requires join { IsEventOf (settings_in self.old) (opening_of join.now) }
-        ensures takes { OnOk result (Takes
-            (at_work self.old (link_seen (L.coming link.old) (L.tried link.old) (L.receive_faults link.old) (L.send_faults link.old))
-            (out_seen (O.tried out.old) (O.faults out.old)))
-            (at_work self.new (link_seen (L.coming link.new) (L.tried link.new) (L.receive_faults link.new) (L.send_faults link.new))
-            (out_seen (O.tried out.new) (O.faults out.new)))
-            (opening_of join.now ∷ [])) }
-        ensures none { OnErr result (Takes
-            (at_work self.old (link_seen (L.coming link.old) (L.tried link.old) (L.receive_faults link.old) (L.send_faults link.old))
-            (out_seen (O.tried out.old) (O.faults out.old)))
-            (at_work self.new (link_seen (L.coming link.new) (L.tried link.new) (L.receive_faults link.new) (L.send_faults link.new))
-            (out_seen (O.tried out.new) (O.faults out.new))) []) }
+        ensures takes { OnOk result (Takes (at_work self.old (link_at L.Link link.old) (out_at O.OutLink out.old))
+            (at_work self.new (link_at L.Link link.new) (out_at O.OutLink out.new)) (opening_of join.now ∷ [])) }
+        ensures none { OnErr result (Takes (at_work self.old (link_at L.Link link.old) (out_at O.OutLink out.old))
+            (at_work self.new (link_at L.Link link.new) (out_at O.OutLink out.new)) []) }
         ensures tallies { Tallies (counts_in self.old) (counts_in self.new) 0 0 0 0 }
         ensures latest { latest_in self.new ≡ latest_in self.old }
         ensures coming { L.coming link.new ≡ L.coming link.old }
@@ -96,10 +89,8 @@ impl Server {
         requires joins { All (λ join. IsEventOf (settings_in self.old) (opening_of join)) joins.now }
         requires few { AreFew 1 self.old }
         ensures begins { BeginsWith (map opening_of joins.now)
-            (at_work self.old (link_seen (L.coming link.old) (L.tried link.old) (L.receive_faults link.old) (L.send_faults link.old))
-            (out_seen (O.tried out.old) (O.faults out.old)))
-            (at_work self.new (link_seen (L.coming link.new) (L.tried link.new) (L.receive_faults link.new) (L.send_faults link.new))
-            (out_seen (O.tried out.new) (O.faults out.new))) result }
+            (at_work self.old (link_at L.Link link.old) (out_at O.OutLink out.old))
+            (at_work self.new (link_at L.Link link.new) (out_at O.OutLink out.new)) result }
         ensures latest { latest_in self.new ≡ latest_in self.old }
         ensures coming { L.coming link.new ≡ L.coming link.old }
         ensures faults { L.receive_faults link.new ≡ L.receive_faults link.old }
@@ -126,10 +117,8 @@ impl Server {
         requires few { AreFew 0 self.old }
         requires none { events_in self.old ≡ [] }
         ensures opens { OpensSo joins.now
-            (at_work self.old (link_seen (L.coming link.old) (L.tried link.old) (L.receive_faults link.old) (L.send_faults link.old))
-            (out_seen (O.tried out.old) (O.faults out.old)))
-            (at_work self.new (link_seen (L.coming link.new) (L.tried link.new) (L.receive_faults link.new) (L.send_faults link.new))
-            (out_seen (O.tried out.new) (O.faults out.new)))
+            (at_work self.old (link_at L.Link link.old) (out_at O.OutLink out.old))
+            (at_work self.new (link_at L.Link link.new) (out_at O.OutLink out.new))
             (C.given clock.old) (C.given clock.new) result }
         ensures coming { L.coming link.new ≡ L.coming link.old }
         ensures faults { L.receive_faults link.new ≡ L.receive_faults link.old }

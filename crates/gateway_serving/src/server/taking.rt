@@ -1,8 +1,7 @@
 //! How a running gateway takes an event, sends what the machine says, and hands on a packet.
 ghost use Rattle.std.specs.Prelude.{◌≡◌, ◌≤◌, ◌<◌, ◌+◌, ◌^◌, [], ◌∷◌, length, map, IsOk, OnErr, OnOk};
 ghost use Rattle.gateway_machine.specs.{Events.{IsDraw, IsEventOf}, Outcomes.{NeedsNoMemory}, Runs.{answer_after}};
-ghost use Rattle.amt_ports.specs.Devices.{link_seen, out_seen};
-ghost use Rattle.gateway_serving.specs.{Sending.{delivery_to, to_peer}, Servers.{AreFew, IsAlike, Takes, Tallies, at_work, counts_in, events_in, first_in, latest_in, settings_in}, Taking.{HasHandedOn, HasSent}};
+ghost use Rattle.gateway_serving.specs.{Devices.{link_at, out_at}, Sending.{delivery_to, to_peer}, Servers.{AreFew, IsAlike, Takes, Tallies, at_work, counts_in, events_in, first_in, latest_in, settings_in}, Taking.{HasHandedOn, HasSent}};
 
 use super::Server;
 use crate::counts::Counts;
@@ -15,8 +14,8 @@ use std::alloc::{AllocError, Global};
 fn send_all<L: Link>(link: &mut L, sends: &[PeerSend], counts: &mut Counts)
     requires room { counts.old.unsent + length sends.now < 2 ^ 64 }
     ensures sent { HasSent
-        (link_seen (L.coming link.old) (L.tried link.old) (L.receive_faults link.old) (L.send_faults link.old))
-        (link_seen (L.coming link.new) (L.tried link.new) (L.receive_faults link.new) (L.send_faults link.new))
+        (link_at L.Link link.old)
+        (link_at L.Link link.new)
         counts.old counts.new (map to_peer sends.now) }
     ensures coming { L.coming link.new ≡ L.coming link.old }
     ensures faults { L.receive_faults link.new ≡ L.receive_faults link.old }
@@ -35,7 +34,7 @@ fn send_all<L: Link>(link: &mut L, sends: &[PeerSend], counts: &mut Counts)
 // Hands on the packet, if there is one, and counts it.
 fn hand_on<O: OutLink>(out: &mut O, deliver: &Peer, packet: &Option<Bytes>, counts: &mut Counts)
     requires room { (counts.old.unsent + 1 < 2 ^ 64) × (counts.old.delivered + 1 < 2 ^ 64) }
-    ensures handed { HasHandedOn (out_seen (O.tried out.old) (O.faults out.old)) (out_seen (O.tried out.new) (O.faults out.new))
+    ensures handed { HasHandedOn (out_at O.OutLink out.old) (out_at O.OutLink out.new)
         counts.old counts.new (delivery_to deliver.now packet.now) }
     ensures tallies { Tallies counts.old counts.new 0 0 0 0 }
     ensures few { (counts.new.unsent ≤ counts.old.unsent + 1) × (counts.new.delivered ≤ counts.old.delivered + 1) }
@@ -62,17 +61,10 @@ impl Server {
     ) -> Result<(), AllocError>
         requires event { IsEventOf (settings_in self.old) event.now }
         requires few { AreFew (2 ^ 61) self.old }
-        ensures takes { OnOk result (Takes
-            (at_work self.old (link_seen (L.coming link.old) (L.tried link.old) (L.receive_faults link.old) (L.send_faults link.old))
-            (out_seen (O.tried out.old) (O.faults out.old)))
-            (at_work self.new (link_seen (L.coming link.new) (L.tried link.new) (L.receive_faults link.new) (L.send_faults link.new))
-            (out_seen (O.tried out.new) (O.faults out.new)))
-            (event.now ∷ [])) }
-        ensures none { OnErr result (Takes
-            (at_work self.old (link_seen (L.coming link.old) (L.tried link.old) (L.receive_faults link.old) (L.send_faults link.old))
-            (out_seen (O.tried out.old) (O.faults out.old)))
-            (at_work self.new (link_seen (L.coming link.new) (L.tried link.new) (L.receive_faults link.new) (L.send_faults link.new))
-            (out_seen (O.tried out.new) (O.faults out.new))) []) }
+        ensures takes { OnOk result (Takes (at_work self.old (link_at L.Link link.old) (out_at O.OutLink out.old))
+            (at_work self.new (link_at L.Link link.new) (out_at O.OutLink out.new)) (event.now ∷ [])) }
+        ensures none { OnErr result (Takes (at_work self.old (link_at L.Link link.old) (out_at O.OutLink out.old))
+            (at_work self.new (link_at L.Link link.new) (out_at O.OutLink out.new)) []) }
         ensures tallies { Tallies (counts_in self.old) (counts_in self.new) 0 0 0 0 }
         ensures latest { latest_in self.new ≡ latest_in self.old }
         ensures coming { L.coming link.new ≡ L.coming link.old }

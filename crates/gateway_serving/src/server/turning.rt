@@ -1,7 +1,7 @@
 //! One turn of a running gateway, and all of a run.
 ghost use Rattle.std.specs.Prelude.{◌≡◌, ◌≤◌, ◌-◌, ◌^◌, [], ◌∷◌, length};
-ghost use Rattle.amt_ports.specs.{EndCauses.{IsCausedBy}, Devices.{WaitsBriefly, feed_seen, link_seen, out_seen, words_seen}};
-ghost use Rattle.gateway_serving.specs.{Devices.{devices_seen}, Events.{nonce_of}, Servers.{AreFew, GrowsBy, Takes, Tallies, at_work, counts_in, latest_in}, Settings.{AreTurns}, Stages.{AreCausesOf, BeginsTurn, EndsIn, PassesMoment, RunsSo, TurnsSo}};
+ghost use Rattle.amt_ports.specs.{EndCauses.{IsCausedBy}, Devices.{WaitsBriefly}};
+ghost use Rattle.gateway_serving.specs.{Devices.{devices_seen, feed_at, link_at, out_at, words_at}, Events.{nonce_of}, Servers.{AreFew, GrowsBy, Takes, Tallies, at_work, counts_in, latest_in}, Settings.{AreTurns}, Stages.{AreCausesOf, BeginsTurn, EndsIn, PassesMoment, RunsSo, TurnsSo}};
 ghost use Rattle.gateway_machine.specs.declared.event.GatewayEvent.TheVariants.{Nonce as NonceEvent};
 
 use super::Server;
@@ -13,12 +13,8 @@ impl Server {
     // The next nonce is that of this word. It takes no memory.
     fn draw<L: Link, O: OutLink>(&mut self, alloc: Global, word: u64, link: &mut L, out: &mut O)
         requires few { AreFew (2 ^ 61) self.old }
-        ensures takes { Takes
-            (at_work self.old (link_seen (L.coming link.old) (L.tried link.old) (L.receive_faults link.old) (L.send_faults link.old))
-            (out_seen (O.tried out.old) (O.faults out.old)))
-            (at_work self.new (link_seen (L.coming link.new) (L.tried link.new) (L.receive_faults link.new) (L.send_faults link.new))
-            (out_seen (O.tried out.new) (O.faults out.new)))
-            (NonceEvent (nonce_of word) ∷ []) }
+        ensures takes { Takes (at_work self.old (link_at L.Link link.old) (out_at O.OutLink out.old))
+            (at_work self.new (link_at L.Link link.new) (out_at O.OutLink out.new)) (NonceEvent (nonce_of word) ∷ []) }
         ensures tallies { Tallies (counts_in self.old) (counts_in self.new) 0 0 0 0 }
         ensures latest { latest_in self.new ≡ latest_in self.old }
         ensures coming { L.coming link.new ≡ L.coming link.old }
@@ -43,10 +39,8 @@ impl Server {
     )
         requires few { AreFew (2 ^ 61 - 1) self.old }
         ensures passes { PassesMoment
-            (at_work self.old (link_seen (L.coming link.old) (L.tried link.old) (L.receive_faults link.old) (L.send_faults link.old))
-            (out_seen (O.tried out.old) (O.faults out.old)))
-            (at_work self.new (link_seen (L.coming link.new) (L.tried link.new) (L.receive_faults link.new) (L.send_faults link.new))
-            (out_seen (O.tried out.new) (O.faults out.new)))
+            (at_work self.old (link_at L.Link link.old) (out_at O.OutLink out.old))
+            (at_work self.new (link_at L.Link link.new) (out_at O.OutLink out.new))
             (C.given clock.old) (C.given clock.new) }
         ensures coming { L.coming link.new ≡ L.coming link.old }
         ensures faults { L.receive_faults link.new ≡ L.receive_faults link.old }
@@ -71,10 +65,8 @@ impl Server {
     ) -> Result<(), End>
         requires few { AreFew (2 ^ 61 - 2) self.old }
         ensures begins { BeginsTurn
-            (at_work self.old (link_seen (L.coming link.old) (L.tried link.old) (L.receive_faults link.old) (L.send_faults link.old))
-            (out_seen (O.tried out.old) (O.faults out.old)))
-            (at_work self.new (link_seen (L.coming link.new) (L.tried link.new) (L.receive_faults link.new) (L.send_faults link.new))
-            (out_seen (O.tried out.new) (O.faults out.new)))
+            (at_work self.old (link_at L.Link link.old) (out_at O.OutLink out.old))
+            (at_work self.new (link_at L.Link link.new) (out_at O.OutLink out.new))
             (C.given clock.old) (C.given clock.new) (W.given words.old) (W.given words.new) result }
         ensures cause { IsCausedBy result End.WordsFault (W.faults words.old) (W.faults words.new) }
         ensures coming { L.coming link.new ≡ L.coming link.old }
@@ -104,19 +96,11 @@ impl Server {
         requires room { 65536 ≤ length buf.old }
         requires few { AreFew (2 ^ 61 - 130) self.old }
         ensures turns { TurnsSo self.old self.new
-            (devices_seen (C.given clock.old) (words_seen (W.given words.old) (W.faults words.old))
-            (link_seen (L.coming link.old) (L.tried link.old) (L.receive_faults link.old) (L.send_faults link.old))
-            (feed_seen (F.coming control.old) (F.faults control.old)) (out_seen (O.tried out.old) (O.faults out.old)))
-            (devices_seen (C.given clock.new) (words_seen (W.given words.new) (W.faults words.new))
-            (link_seen (L.coming link.new) (L.tried link.new) (L.receive_faults link.new) (L.send_faults link.new))
-            (feed_seen (F.coming control.new) (F.faults control.new)) (out_seen (O.tried out.new) (O.faults out.new))) result }
+            (devices_seen (C.given clock.old) (words_at W.Words words.old) (link_at L.Link link.old) (feed_at F.Feed control.old) (out_at O.OutLink out.old))
+            (devices_seen (C.given clock.new) (words_at W.Words words.new) (link_at L.Link link.new) (feed_at F.Feed control.new) (out_at O.OutLink out.new)) result }
         ensures causes { AreCausesOf result
-            (devices_seen (C.given clock.old) (words_seen (W.given words.old) (W.faults words.old))
-            (link_seen (L.coming link.old) (L.tried link.old) (L.receive_faults link.old) (L.send_faults link.old))
-            (feed_seen (F.coming control.old) (F.faults control.old)) (out_seen (O.tried out.old) (O.faults out.old)))
-            (devices_seen (C.given clock.new) (words_seen (W.given words.new) (W.faults words.new))
-            (link_seen (L.coming link.new) (L.tried link.new) (L.receive_faults link.new) (L.send_faults link.new))
-            (feed_seen (F.coming control.new) (F.faults control.new)) (out_seen (O.tried out.new) (O.faults out.new))) }
+            (devices_seen (C.given clock.old) (words_at W.Words words.old) (link_at L.Link link.old) (feed_at F.Feed control.old) (out_at O.OutLink out.old))
+            (devices_seen (C.given clock.new) (words_at W.Words words.new) (link_at L.Link link.new) (feed_at F.Feed control.new) (out_at O.OutLink out.new)) }
         ensures link_waits { WaitsBriefly (L.longest_wait link.old) (L.longest_wait link.new) }
         ensures control_waits { WaitsBriefly (F.longest_wait control.old) (F.longest_wait control.new) }
         ensures few { GrowsBy 130 self.old self.new }
@@ -143,19 +127,11 @@ impl Server {
         requires room { 65536 ≤ length buf.old }
         requires few { AreFew (2 ^ 60) self.old }
         ensures runs { RunsSo turns self.old self.new
-            (devices_seen (C.given clock.old) (words_seen (W.given words.old) (W.faults words.old))
-            (link_seen (L.coming link.old) (L.tried link.old) (L.receive_faults link.old) (L.send_faults link.old))
-            (feed_seen (F.coming control.old) (F.faults control.old)) (out_seen (O.tried out.old) (O.faults out.old)))
-            (devices_seen (C.given clock.new) (words_seen (W.given words.new) (W.faults words.new))
-            (link_seen (L.coming link.new) (L.tried link.new) (L.receive_faults link.new) (L.send_faults link.new))
-            (feed_seen (F.coming control.new) (F.faults control.new)) (out_seen (O.tried out.new) (O.faults out.new))) result.0 result.1 }
+            (devices_seen (C.given clock.old) (words_at W.Words words.old) (link_at L.Link link.old) (feed_at F.Feed control.old) (out_at O.OutLink out.old))
+            (devices_seen (C.given clock.new) (words_at W.Words words.new) (link_at L.Link link.new) (feed_at F.Feed control.new) (out_at O.OutLink out.new)) result.0 result.1 }
         ensures causes { EndsIn result.0
-            (devices_seen (C.given clock.old) (words_seen (W.given words.old) (W.faults words.old))
-            (link_seen (L.coming link.old) (L.tried link.old) (L.receive_faults link.old) (L.send_faults link.old))
-            (feed_seen (F.coming control.old) (F.faults control.old)) (out_seen (O.tried out.old) (O.faults out.old)))
-            (devices_seen (C.given clock.new) (words_seen (W.given words.new) (W.faults words.new))
-            (link_seen (L.coming link.new) (L.tried link.new) (L.receive_faults link.new) (L.send_faults link.new))
-            (feed_seen (F.coming control.new) (F.faults control.new)) (out_seen (O.tried out.new) (O.faults out.new))) }
+            (devices_seen (C.given clock.old) (words_at W.Words words.old) (link_at L.Link link.old) (feed_at F.Feed control.old) (out_at O.OutLink out.old))
+            (devices_seen (C.given clock.new) (words_at W.Words words.new) (link_at L.Link link.new) (feed_at F.Feed control.new) (out_at O.OutLink out.new)) }
         ensures link_waits { WaitsBriefly (L.longest_wait link.old) (L.longest_wait link.new) }
         ensures control_waits { WaitsBriefly (F.longest_wait control.old) (F.longest_wait control.new) }
     {

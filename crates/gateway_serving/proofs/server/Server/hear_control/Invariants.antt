@@ -1,14 +1,14 @@
 -- Each asking so far found a line.
 use Rattle.std.proofs.Common.{◌≡◌, length}
-use Rattle.amt_ports.{specs.Devices.{WaitsBriefly, feed_seen, link_seen, out_seen}, proofs.SoFar.{SoFar}}
-use Rattle.gateway_serving.specs.{Servers.{GrowsBy, HearsControl, at_control, at_work, family_in, latest_in}, Turns.{from_control}}
+use Rattle.amt_ports.{specs.Devices.{WaitsBriefly}, proofs.SoFar.{SoFar}}
+use Rattle.gateway_serving.specs.{Devices.{feed_at, link_at, out_at}, Servers.{GrowsBy, HearsControl, at_control, at_work, family_in, latest_in}, Turns.{from_control}}
 use Rattle.gateway_serving.proofs.server.Server.hear_control.Given as goal
 
 abbrev pub invariant-loop : goal.invariant-loop
 invariant-loop g l = record {
   lines : SoFar HearsControl (from_control (family_in l.initial.self))
-      (at_control (at_work l.initial.self (link_seen (g.L.Link.coming l.initial.link) (g.L.Link.tried l.initial.link) (g.L.Link.receive_faults l.initial.link) (g.L.Link.send_faults l.initial.link)) (out_seen (g.O.OutLink.tried l.initial.out) (g.O.OutLink.faults l.initial.out))) (feed_seen (g.F.Feed.coming l.initial.control) (g.F.Feed.faults l.initial.control)))
-      (at_control (at_work l.self (link_seen (g.L.Link.coming l.link) (g.L.Link.tried l.link) (g.L.Link.receive_faults l.link) (g.L.Link.send_faults l.link)) (out_seen (g.O.OutLink.tried l.out) (g.O.OutLink.faults l.out))) (feed_seen (g.F.Feed.coming l.control) (g.F.Feed.faults l.control))) l.counter;
+      (at_control (at_work l.initial.self (link_at g.L.Link l.initial.link) (out_at g.O.OutLink l.initial.out)) (feed_at g.F.Feed l.initial.control))
+      (at_control (at_work l.self (link_at g.L.Link l.link) (out_at g.O.OutLink l.out)) (feed_at g.F.Feed l.control)) l.counter;
   latest : latest_in l.self ≡ latest_in l.initial.self;
   coming : g.L.Link.coming l.link ≡ g.L.Link.coming l.initial.link;
   faults : g.L.Link.receive_faults l.link ≡ g.L.Link.receive_faults l.initial.link;

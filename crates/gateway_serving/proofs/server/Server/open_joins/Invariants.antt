@@ -1,14 +1,13 @@
 -- The joins so far were opened.
 use Rattle.std.proofs.Common.{◌≡◌}
-use Rattle.amt_ports.specs.Devices.{link_seen, out_seen}
-use Rattle.gateway_serving.{specs.Servers.{GrowsBy, at_work, latest_in, settings_in}, proofs.Beginning.{AreOpened}}
+use Rattle.gateway_serving.{specs.{Devices.{link_at, out_at}, Servers.{GrowsBy, at_work, latest_in, settings_in}}, proofs.Beginning.{AreOpened}}
 use Rattle.gateway_serving.proofs.server.Server.open_joins.Given as goal
 
 abbrev pub invariant-loop-join : goal.invariant-loop-join
 invariant-loop-join g l = record {
   opened : AreOpened l.joins
-      (at_work l.initial.self (link_seen (g.L.Link.coming l.initial.link) (g.L.Link.tried l.initial.link) (g.L.Link.receive_faults l.initial.link) (g.L.Link.send_faults l.initial.link)) (out_seen (g.O.OutLink.tried l.initial.out) (g.O.OutLink.faults l.initial.out)))
-      (at_work l.self (link_seen (g.L.Link.coming l.link) (g.L.Link.tried l.link) (g.L.Link.receive_faults l.link) (g.L.Link.send_faults l.link)) (out_seen (g.O.OutLink.tried l.out) (g.O.OutLink.faults l.out))) l.join-index;
+      (at_work l.initial.self (link_at g.L.Link l.initial.link) (out_at g.O.OutLink l.initial.out))
+      (at_work l.self (link_at g.L.Link l.link) (out_at g.O.OutLink l.out)) l.join-index;
   same_settings : settings_in l.self ≡ settings_in l.initial.self;
   latest : latest_in l.self ≡ latest_in l.initial.self;
   coming : g.L.Link.coming l.link ≡ g.L.Link.coming l.initial.link;

@@ -1,13 +1,13 @@
 use Rattle.std.proofs.Common.{map, take, refl, ap, subst, ◌∙◌, arith}
-use Rattle.amt_ports.specs.Devices.{LinkSeen, link_seen}
-use Rattle.gateway_serving.{specs.{Sending.{to_peer}, Taking.{HasSent}, declared.counts.Counts.{Counts}}, proofs.{Taking.{Tallies-none}, Trying.{HasSent-failed, HasSent-none, HasSent-taken, Tallies-still, sends_more}, server.taking.send_all.Goals.{in-Ok, in-Err}}}
+use Rattle.amt_ports.specs.Devices.{LinkSeen}
+use Rattle.gateway_serving.{specs.{Devices.{link_at}, Sending.{to_peer}, Taking.{HasSent}, declared.counts.Counts.{Counts}}, proofs.{Taking.{Tallies-none}, Trying.{HasSent-failed, HasSent-none, HasSent-taken, Tallies-still, sends_more}, server.taking.send_all.Goals.{in-Ok, in-Err}}}
 use Rattle.gateway_serving.proofs.server.taking.send_all.Goals as goal
 
 pub loop-send-init : goal.loop-send-init
 loop-send-init g c =
     let link = c.args.link.now in
     record {
-      sent = HasSent-none (link_seen (g.L.Link.coming link) (g.L.Link.tried link) (g.L.Link.receive_faults link) (g.L.Link.send_faults link)) c.args.counts.now;
+      sent = HasSent-none (link_at g.L.Link link) c.args.counts.now;
       few = omega arith;
       tallies = Tallies-none c.args.counts.now;
       coming = refl;
@@ -26,9 +26,9 @@ loop-send-preserved g c =
     let link = c.args.link.now in
     let middle = c.loop-send.link in
     let after = c.send.new.self in
-    let seen : LinkSeen = link_seen (g.L.Link.coming link) (g.L.Link.tried link) (g.L.Link.receive_faults link) (g.L.Link.send_faults link) in
-    let seen_now : LinkSeen = link_seen (g.L.Link.coming middle) (g.L.Link.tried middle) (g.L.Link.receive_faults middle) (g.L.Link.send_faults middle) in
-    let seen_after : LinkSeen = link_seen (g.L.Link.coming after) (g.L.Link.tried after) (g.L.Link.receive_faults after) (g.L.Link.send_faults after) in
+    let seen : LinkSeen = link_at g.L.Link link in
+    let seen_now : LinkSeen = link_at g.L.Link middle in
+    let seen_after : LinkSeen = link_at g.L.Link after in
     let sends = c.args.sends.now in
     let place = c.loop-send.send-index in
     let first = c.args.counts.now in

@@ -1,14 +1,13 @@
 -- What was tried so far is the sends so far, and nothing else was counted.
 use Rattle.std.proofs.Common.{◌≡◌, ◌≤◌, ◌+◌, map, take}
-use Rattle.amt_ports.specs.Devices.{link_seen}
-use Rattle.gateway_serving.specs.{Sending.{to_peer}, Servers.{Tallies}, Taking.{HasSent}}
+use Rattle.gateway_serving.specs.{Devices.{link_at}, Sending.{to_peer}, Servers.{Tallies}, Taking.{HasSent}}
 use Rattle.gateway_serving.proofs.server.taking.send_all.Given as goal
 
 abbrev pub invariant-loop-send : goal.invariant-loop-send
 invariant-loop-send g l = record {
   sent : HasSent
-      (link_seen (g.L.Link.coming l.initial.link) (g.L.Link.tried l.initial.link) (g.L.Link.receive_faults l.initial.link) (g.L.Link.send_faults l.initial.link))
-      (link_seen (g.L.Link.coming l.link) (g.L.Link.tried l.link) (g.L.Link.receive_faults l.link) (g.L.Link.send_faults l.link))
+      (link_at g.L.Link l.initial.link)
+      (link_at g.L.Link l.link)
       l.initial.counts l.counts (map to_peer (take l.send-index l.sends));
   few : l.counts.unsent ≤ l.initial.counts.unsent + l.send-index;
   tallies : Tallies l.initial.counts l.counts 0 0 0 0;
