@@ -1,5 +1,5 @@
 -- Gateways that are apart: one more, those that a name or an endpoint names, and those beside one.
-use Rattle.std.{proofs.{Common.{◌≡◌, ◌⊎◌, true, false, ◌||◌, List, [], ◌∷◌, ◌++◌, Contains, Some, None, Option, refl, sym, ap, ◌∙◌, subst, append_assoc, inl, inr}, lemmas.Bool.{or_parts}}, specs.{Cmp.{nat_eq_equiv, Lexicographic.{lists_equiv}}, List.{AllByRecursion}}}
+use Rattle.std.{proofs.{Common.{◌≡◌, ◌⊎◌, true, false, ◌||◌, List, [], ◌∷◌, ◌++◌, Contains, Some, None, Option, sym, ap, ◌∙◌, subst, append_assoc, inl, inr}, lemmas.Bool.{or_parts}}, specs.{Cmp.{nat_eq_equiv, Lexicographic.{lists_equiv}}, List.{AllByRecursion}}}
 use Rattle.amt_values.{specs.{Endpoint.{endpoint_of}, EndpointValue.{EndpointValue}, Order.{endpoint_order}, declared.peer.Peer.{Peer}}, proofs.{AscendingLaws.{Equal-from_test}, Orders.{endpoint_order-exact}}}
 use Rattle.gateway_machine.specs.Answers.{same_peer}
 use Rattle.socket_merge.specs.History.{same_name}
