@@ -1,5 +1,5 @@
 -- Lists that begin with others, and logs that are of one history.
-use Rattle.std.{proofs.{Common.{◌≡◌, ◌⊎◌, ℕ, ◌≤◌, inl, inr, zero, suc, List, [], ◌∷◌, ◌++◌, length, take, drop, map, refl, sym, ap, subst, ◌∙◌, arith}, Math.Seq.{take-append_seam, drop-append_seam, take-length}, lemmas.List.{append-nil, append_assoc, length-append, map-append, take-append-drop, Elements.{All-cons, All-drop, All-push, All-take}}}, specs.Prelude.{slice_index_or}}
+use Rattle.std.{proofs.{Common.{◌≡◌, ◌⊎◌, ℕ, ◌≤◌, inl, inr, zero, suc, List, [], ◌∷◌, ◌++◌, length, take, drop, map, refl, sym, ap, subst, ◌∙◌, arith}, Math.Seq.{take-append_seam, drop-append_seam, take-length}, lemmas.List.{append-nil, append_assoc, length-append, map-append, nil_from_length, take-append-drop, take-take, Elements.{All-cons, All-drop, All-take}}}, specs.Prelude.{slice_index_or}}
 use mathlib.Core.List.{IsPrefix}
 use Rattle.endpoint_membership.specs.declared.change.Change.{Change}
 use Rattle.published_table.specs.{History.{AreUnder, IsUnder}, Lists.{BeginsWith, BeginsWithEach}, Logs.{entries}, declared.past.Past.{Past}}
@@ -19,16 +19,10 @@ module _ {X : Type 0} where
       begins_by xs zs (drop (length zs) ys ++ drop (length ys) xs)
       (rest_after xs ys first ∙ ap (λ (all : List X). all ++ drop (length ys) xs) (rest_after ys zs second) ∙ append_assoc zs (drop (length zs) ys) (drop (length ys) xs))
 
-  take_less : (least most : ℕ) (xs : List X) → least ≤ most → take least (take most xs) ≡ take least xs
-  take_less zero most xs less = refl
-  take_less (suc least) zero xs less = absurd (omega arith)
-  take_less (suc least) (suc most) [] less = refl
-  take_less (suc least) (suc most) (x ∷ xs) less = ap (λ (rest : List X). x ∷ rest) (take_less least most xs (omega arith))
-
   -- of two prefixes of one list, the longer begins with the shorter
   longer_begins : (all xs ys : List X) → BeginsWith all xs → BeginsWith all ys → length ys ≤ length xs → BeginsWith xs ys
   longer_begins all xs ys first second less =
-      ap (take (length ys)) (sym first) ∙ take_less (length ys) (length xs) all less ∙ second
+      ap (take (length ys)) (sym first) ∙ take-take (length ys) (length xs) all less ∙ second
 
   each_fewer : (xs : List X) (lists more : List (List X)) → BeginsWithEach xs (lists ++ more) → BeginsWithEach xs lists
   each_fewer xs lists more each = subst (BeginsWithEach xs) (take-append_seam lists more) (All-take (BeginsWith xs) (length lists) (lists ++ more) each)
@@ -36,9 +30,6 @@ module _ {X : Type 0} where
   each_last : (xs : List X) (lists : List (List X)) (last : List X) → BeginsWithEach xs (lists ++ last ∷ []) → BeginsWith xs last
   each_last xs lists last each =
       subst (BeginsWithEach xs) (drop-append_seam lists (last ∷ [])) (All-drop (BeginsWith xs) (length lists) (lists ++ last ∷ []) each) 0 last (omega arith)
-
-  pub each_push : (xs : List X) (lists : List (List X)) (last : List X) → BeginsWithEach xs lists → BeginsWith xs last → BeginsWithEach xs (lists ++ last ∷ [])
-  each_push xs lists last each begins = All-push (BeginsWith xs) lists last each begins
 
   -- what begins with a list begins with what that begins with
   pub each_further : (xs ys : List X) (lists : List (List X)) → BeginsWith xs ys → BeginsWithEach ys lists → BeginsWithEach xs lists
@@ -57,16 +48,12 @@ module _ {X : Type 0} where
     | inr whole ↦ inr (ap (λ (rest : List X). first ∷ rest) whole)
   ]
 
-  nothing_more : (rest : List X) → length rest ≡ 0 → rest ≡ []
-  nothing_more [] none = refl
-  nothing_more (x ∷ rest) none = absurd (omega arith)
-
   -- a prefix that is no shorter is all
   pub prefix_whole : (before all : List X) → IsPrefix before all → length all ≤ length before → before ≡ all
   prefix_whole before all is short =
       let counted = length-append before is.0 in
       let longer = ap length is.1 in
-      let none = nothing_more is.0 (omega (arith, counted, longer, short)) in
+      let none = nil_from_length is.0 (omega (arith, counted, longer, short)) in
       sym (append-nil before) ∙ ap (λ (rest : List X). before ++ rest) (sym none) ∙ is.1
 
 -- a longer history

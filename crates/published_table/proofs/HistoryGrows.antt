@@ -1,10 +1,10 @@
 -- The exchange that adds a log to the history keeps its rule.
-use Rattle.std.proofs.{Common.{◌≡◌, ℕ, ◌+◌, ◌<◌, ◌==◌, Bool, true, false, List, [], ◌∷◌, ◌++◌, length, map, refl, ap, sym, subst, arith, inl, None}, lemmas.{List.{append-nil, length-append, map-append}, Bool.Decides.{nat_tests}}}
+use Rattle.std.proofs.{Common.{◌≡◌, ℕ, ◌+◌, ◌<◌, ◌==◌, Bool, true, false, List, [], ◌∷◌, ◌++◌, length, map, refl, ap, sym, subst, arith, inl, None}, lemmas.{List.{append-nil, length-append, map-append, Elements.{All-push}}, Bool.Decides.{nat_tests}}}
 use mathlib.Core.List.{IsPrefix}
 use prog.Atomic.{either}
 use Rattle.logbook.specs.Pages.{Cell, Goes, Moves, cell, keeps, no_nib, step}
 use Rattle.endpoint_membership.specs.declared.change.Change.{Change}
-use Rattle.published_table.{specs.{History.{Adds, IsKept}, Lists.{BeginsWithEach}, Logs.{entries}, declared.past.Past.{Past}}, proofs.Beginnings.{begins_itself, each_push, prefix_whole}}
+use Rattle.published_table.{specs.{History.{Adds, IsKept}, Lists.{BeginsWith, BeginsWithEach}, Logs.{entries}, declared.past.Past.{Past}}, proofs.Beginnings.{begins_itself, prefix_whole}}
 
 abbrev pub shown : List Past → List Past
 shown logs = []
@@ -25,7 +25,7 @@ adds_goes logs before log old counted begins longest each is true test =
     let number : either (length logs == old) (old + 1) (length logs) ≡ length (logs ++ log ∷ []) = rw test (omega (arith, length-append logs (log ∷ []))) in
     let all : BeginsWithEach (entries log) (map entries (logs ++ log ∷ [])) =
     subst (BeginsWithEach (entries log)) (sym (map-append entries logs (log ∷ [])))
-    (each_push (entries log) (map entries logs) (entries log) (subst (λ (known : List Past). BeginsWithEach (entries log) (map entries known)) whole begins) (begins_itself (entries log))) in (
+    (All-push (BeginsWith (entries log)) (map entries logs) (entries log) (subst (λ (known : List Past). BeginsWithEach (entries log) (map entries known)) whole begins) (begins_itself (entries log))) in (
       keeps,
       log ∷ [],
       None,

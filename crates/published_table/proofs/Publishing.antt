@@ -19,37 +19,23 @@ pub record IsPublisher (known : Known) (shown : TableCopy) (pending : List Entry
   pub short : length (entries whole) < 2 ^ 63
   pub fits : FitsThroughout terms (entries whole)
 
-module _ (known : Known) (shown : TableCopy) (pending : List Entry) (taken : List Change) (owed : ℕ) (whole : Past) (bookmark : Bookmark) (terms : Terms) where
-  -- the history is longer now, and what was taken begins with each of its logs
-  pub recorded : (after : Bookmark) → after.seen.book ≡ bookmark.seen.book → IsPrefix bookmark.seen.log after.seen.log → BeginsWithEach (entries whole) (map entries after.seen.log)
-      → IsPublisher known shown pending taken owed whole bookmark terms → IsPublisher known shown pending taken owed whole after terms
-  recorded after book kept above is =
-      let same : ◌≡◌ {A = Book × Terms} (bookmark.seen.book, terms) (after.seen.book, terms) = ap (λ (one : Book). (one, terms)) (sym book) in record {
-        marked = is.marked ∙ ap (λ (one : Book × Terms). one ∷ []) same;
-        origin = is.origin ∙ same;
-        all = is.all;
-        vouched = subst (λ (one : Book). IsVouched one (fold with_entry (state_of shown) pending)) (sym book) is.vouched;
-        under = IsUnder-later bookmark.seen.log after.seen.log (log_of shown) kept is.under;
-        above = above;
-        counted = is.counted;
-        short = is.short;
-        fits = is.fits;
-      }
-
-  -- some of what was taken is pending now
-  pub handed_over : (after : List Entry) (left : List Change) → changes after ++ left ≡ changes pending ++ taken → IsVouched bookmark.seen.book (fold with_entry (state_of shown) after)
-      → IsPublisher known shown pending taken owed whole bookmark terms → IsPublisher known shown after left owed whole bookmark terms
-  handed_over after left same vouched is = record {
-    marked = is.marked;
-    origin = is.origin;
-    all = is.all ∙ ap (λ (rest : List Change). log_of shown ++ rest) (sym same);
-    vouched = vouched;
-    under = is.under;
-    above = is.above;
-    counted = is.counted ∙ ap length (sym same);
-    short = is.short;
-    fits = is.fits;
-  }
+-- after the history grew, and some of what was taken was handed over
+pub after_handing : (known known_now : Known) (shown shown_then : TableCopy) (pending pending_now : List Entry) (taken taken_now : List Change) (owed : ℕ) (whole : Past) (before after : Bookmark) (terms : Terms)
+    → known_now ≡ known → shown_then ≡ shown → after.seen.book ≡ before.seen.book → IsPrefix before.seen.log after.seen.log → BeginsWithEach (entries whole) (map entries after.seen.log)
+    → changes pending_now ++ taken_now ≡ changes pending ++ taken → IsVouched after.seen.book (fold with_entry (state_of shown_then) pending_now)
+    → IsPublisher known shown pending taken owed whole before terms → IsPublisher known_now shown_then pending_now taken_now owed whole after terms
+after_handing known known_now shown shown_then pending pending_now taken taken_now owed whole before after terms same_known same_shown book kept above rest vouched is =
+    let same : ◌≡◌ {A = Book × Terms} (before.seen.book, terms) (after.seen.book, terms) = ap (λ (one : Book). (one, terms)) (sym book) in record {
+      marked = (λ i. map origin_of (same_known i).copies) ∙ is.marked ∙ ap (λ (one : Book × Terms). one ∷ []) same;
+      origin = (λ i. origin_of (same_shown i)) ∙ is.origin ∙ same;
+      all = is.all ∙ (λ i. log_of (sym same_shown i) ++ sym rest i);
+      vouched = vouched;
+      under = IsUnder-later before.seen.log after.seen.log (log_of shown_then) kept (subst (λ (one : TableCopy). IsUnder before.seen.log (log_of one)) (sym same_shown) is.under);
+      above = above;
+      counted = is.counted ∙ ap length (sym rest);
+      short = is.short;
+      fits = is.fits;
+    }
 
 -- nothing is left that isn't pending
 module _ (known : Known) (shown : TableCopy) (pending : List Entry) (owed : ℕ) (whole : Past) (bookmark : Bookmark) (terms : Terms) (is : IsPublisher known shown pending [] owed whole bookmark terms)
@@ -91,26 +77,12 @@ module _ (known : Known) (shown : TableCopy) (pending : List Entry) (owed : ℕ)
     fits = is.fits;
   }
 
--- after the history grew, and some of what was taken was handed over
-pub after_handing : (known known_now : Known) (shown shown_then : TableCopy) (pending pending_now : List Entry) (taken taken_now : List Change) (owed : ℕ) (whole : Past) (before after : Bookmark) (terms : Terms)
-    → known_now ≡ known → shown_then ≡ shown → after.seen.book ≡ before.seen.book → IsPrefix before.seen.log after.seen.log → BeginsWithEach (entries whole) (map entries after.seen.log)
-    → changes pending_now ++ taken_now ≡ changes pending ++ taken → IsVouched after.seen.book (fold with_entry (state_of shown_then) pending_now)
-    → IsPublisher known shown pending taken owed whole before terms → IsPublisher known_now shown_then pending_now taken_now owed whole after terms
-after_handing known known_now shown shown_then pending pending_now taken taken_now owed whole before after terms same_known same_shown book kept above same vouched is =
-    let here = recorded known shown pending taken owed whole before terms after book kept above is in
-    let there = subst (λ (one : TableCopy). IsPublisher known_now one pending taken owed whole after terms) (sym same_shown)
-    (subst (λ (one : Known). IsPublisher one shown pending taken owed whole after terms) (sym same_known) here) in
-    handed_over known_now shown_then pending taken owed whole after terms pending_now taken_now same vouched there
-
 -- nothing was shown
 pub nothing_shown : (known known_now : Known) (shown shown_then : TableCopy) (pending pending_now : List Entry) (taken : List Change) (owed owed_now : ℕ) (whole : Past) (bookmark : Bookmark) (terms : Terms)
     → IsPublisher known shown pending taken owed whole bookmark terms → known_now ≡ known → shown_then ≡ shown → pending_now ≡ pending → owed_now ≡ owed
     → IsPublisher known_now shown_then pending_now taken owed_now whole bookmark terms
 nothing_shown known known_now shown shown_then pending pending_now taken owed owed_now whole bookmark terms is same_known same_shown same_pending counted =
-    subst (λ (one : Known). IsPublisher one shown_then pending_now taken owed_now whole bookmark terms) (sym same_known)
-    (subst (λ (one : TableCopy). IsPublisher known one pending_now taken owed_now whole bookmark terms) (sym same_shown)
-    (subst (λ (one : List Entry). IsPublisher known shown one taken owed_now whole bookmark terms) (sym same_pending)
-    (subst (λ (one : ℕ). IsPublisher known shown pending taken one whole bookmark terms) (sym counted) is)))
+    subst (λ (one : Known × TableCopy × List Entry × ℕ). IsPublisher one.0 one.1 one.2 taken one.3 whole bookmark terms) (λ i. (sym same_known i, sym same_shown i, sym same_pending i, sym counted i)) is
 
 -- whether the copy was shown or not
 pub published_or_not : {D E : Type 0} (known known_now : Known) (shown shown_then : TableCopy) (pending pending_now : List Entry) (taken : List Change) (owed owed_now : ℕ) (whole : Past) (bookmark : Bookmark) (terms : Terms)
@@ -121,10 +93,8 @@ pub published_or_not : {D E : Type 0} (known known_now : Known) (shown shown_the
     → IsPublisher known_now shown_then pending_now taken owed_now whole bookmark terms
 published_or_not known known_now shown shown_then pending pending_now taken owed owed_now whole bookmark terms (Ok done) is none under values seen counted =
     let empty = subst (λ (one : List Change). IsPublisher known shown pending one owed whole bookmark terms) none is in
-    let next = shown_now known shown pending owed whole bookmark terms empty shown_then values.0 known_now under seen in
-    subst (λ (one : List Change). IsPublisher known_now shown_then pending_now one owed_now whole bookmark terms) (sym none)
-    (subst (λ (one : List Entry). IsPublisher known_now shown_then one [] owed_now whole bookmark terms) (sym values.1)
-    (subst (λ (one : ℕ). IsPublisher known_now shown_then [] [] one whole bookmark terms) (sym counted) next))
+    subst (λ (one : List Entry × List Change × ℕ). IsPublisher known_now shown_then one.0 one.1 one.2 whole bookmark terms) (λ i. (sym values.1 i, sym none i, sym counted i))
+    (shown_now known shown pending owed whole bookmark terms empty shown_then values.0 known_now under seen)
 published_or_not known known_now shown shown_then pending pending_now taken owed owed_now whole bookmark terms (Err error) is none under values same counted =
     nothing_shown known known_now shown shown_then pending pending_now taken owed owed_now whole bookmark terms is same values.0 values.1 counted
 

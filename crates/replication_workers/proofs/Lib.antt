@@ -1,6 +1,6 @@
+pub mod Along
 pub mod Backs
 pub mod Copies
-pub mod Copying
 pub mod Crossing
 pub mod Ending
 pub mod Filling

@@ -1,7 +1,7 @@
 -- Lists of items and their jobs.
-use Rattle.std.proofs.{Common.{◌≡◌, ◌≤◌, ◌<◌, ◌^◌, List, [], ◌∷◌, ◌++◌, length, refl, sym, ap, subst, ◌∙◌, arith, length-append, false, true≢false}, lemmas.List.{append-nil}}
+use Rattle.std.{proofs.{Common.{◌≡◌, ◌≤◌, ◌<◌, ◌^◌, List, [], ◌∷◌, ◌++◌, inl, inr, length, refl, sym, ap, subst, ◌∙◌, arith, length-append, false, true≢false}, lemmas.List.{append-nil}}, specs.declared.snapshot.Snapshot.{Snapshot}}
 use Rattle.published_table.specs.declared.view.View.{View}
-use Rattle.replication_workers.specs.{Queue.{AreOfHome, HasEnded, HasStopped, IsOfHome, IsPutting, MayPut, StopIsLast, has_stop, jobs_of, with_put}, declared.{job.Job.{Job}, queue.{End.{End}, Item.{Item, TheVariants.{Home, Work, Stop}}}}}
+use Rattle.replication_workers.specs.{Queue.{AreOfHome, HasEnded, HasStopped, IsOfHome, IsPutting, MayPut, StopIsLast, has_stop, jobs_of, whole_end, with_put}, declared.{job.Job.{Job}, queue.{End.{End}, Item.{Item, TheVariants.{Home, Work, Stop}}}}}
 
 pub jobs_of-append : (xs ys : List Item) → jobs_of (xs ++ ys) ≡ jobs_of xs ++ jobs_of ys
 jobs_of-append [] ys = refl
@@ -49,41 +49,46 @@ pub of_home-first : (home : List View) (xs ys : List Job) → AreOfHome home (xs
 of_home-first home [] ys all = tt
 of_home-first home (x ∷ xs) ys all = (all.0, of_home-first home xs ys all.1)
 
+-- a new queue may be told whose jobs it is for
+pub may_settle : (home : Snapshot View) → MayPut whole_end (Home home)
+may_settle home = record { puts = refl; alone = inr refl; lawful = λ _. record { few = omega arith; last = tt; of_home = tt } }
+
 -- a job may be put where no Stop was
 pub may_put_job : (known : End) (job : Job) → IsPutting known → length (jobs_of known.put) < 2 ^ 46 → IsOfHome known.home job → MayPut known (Work job)
-may_put_job known job putting few of_home = record {
-  puts = putting.puts;
-  last = open-then known.put (Work job) putting.opened;
-  few = (let all = ap (λ (jobs : List Job). length jobs) (jobs_of-append known.put (Work job ∷ [])) in omega (arith, few, all, length-append (jobs_of known.put) (job ∷ [])));
-  of_home = (of_home, tt);
-}
+may_put_job known job putting few of_home =
+    let jobs = jobs_of-append known.put (Work job ∷ []) in record {
+      puts = putting.puts;
+      alone = inl refl;
+      lawful = λ lawful. record {
+        few = omega (arith, few, ap (λ (jobs : List Job). length jobs) jobs, length-append (jobs_of known.put) (job ∷ []));
+        last = open-then known.put (Work job) putting.opened;
+        of_home = subst (AreOfHome known.home) (sym jobs) (of_home-append known.home (jobs_of known.put) (job ∷ []) lawful.of_home (of_home, tt));
+      };
+    }
 
 pub job_was_put : (known after : End) (job : Job) → after ≡ with_put known (Work job) → jobs_of after.put ≡ jobs_of known.put ++ job ∷ []
 job_was_put known after job is = ap (λ (end : End). jobs_of end.put) is ∙ jobs_of-append known.put (Work job ∷ [])
 
-pub still_putting : (known after : End) (job : Job) → IsPutting known → length (jobs_of known.put) < 2 ^ 46 → after ≡ with_put known (Work job) → IsPutting after
-still_putting known after job putting few is = record {
-  puts = ap (λ (end : End). end.puts) is ∙ putting.puts;
-  takes = ap (λ (end : End). end.takes) is ∙ putting.takes;
-  opened = subst (λ (end : End). has_stop end.put ≡ false) (sym is) (open-job known.put job putting.opened);
-  few = (let all = ap (λ (jobs : List Job). length jobs) (job_was_put known after job is) in omega (arith, few, all, length-append (jobs_of known.put) (job ∷ [])));
-}
+pub still_putting : (known after : End) (job : Job) → IsPutting known → after ≡ with_put known (Work job) → IsPutting after
+still_putting known after job putting is =
+    subst IsPutting (sym is) (record { puts = putting.puts; takes = putting.takes; opened = open-job known.put job putting.opened })
 
 -- so may Stop
 pub may_put_stop : (known : End) → IsPutting known → MayPut known Stop
-may_put_stop known putting = record {
-  puts = putting.puts;
-  last = open-then known.put Stop putting.opened;
-  few = subst (λ (jobs : List Job). length jobs ≤ 2 ^ 46) (sym (jobs_at_stop known.put)) putting.few;
-  of_home = tt;
-}
-  where
-    jobs_at_stop : (put : List Item) → jobs_of (put ++ Stop ∷ []) ≡ jobs_of put
-    jobs_at_stop put = jobs_of-append put (Stop ∷ []) ∙ append-nil (jobs_of put)
+may_put_stop known putting =
+    let jobs = jobs_of-append known.put (Stop ∷ []) ∙ append-nil (jobs_of known.put) in record {
+      puts = putting.puts;
+      alone = inl refl;
+      lawful = λ lawful. record {
+        few = subst (λ (jobs : List Job). length jobs ≤ 2 ^ 46) (sym jobs) lawful.few;
+        last = open-then known.put Stop putting.opened;
+        of_home = subst (AreOfHome known.home) (sym jobs) lawful.of_home;
+      };
+    }
 
 pub stop_was_put : (known after : End) → IsPutting known → after ≡ with_put known Stop → HasStopped after × (jobs_of after.put ≡ jobs_of known.put)
 stop_was_put known after putting is = (
-  record { puts = ap (λ (end : End). end.puts) is ∙ putting.puts; stopped = (known.put, ap (λ (end : End). end.put) is) },
+  subst HasStopped (sym is) (record { puts = putting.puts; stopped = (known.put, refl) }),
   ap (λ (end : End). jobs_of end.put) is ∙ jobs_of-append known.put (Stop ∷ []) ∙ append-nil (jobs_of known.put),
 )
 

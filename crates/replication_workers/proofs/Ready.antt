@@ -1,20 +1,18 @@
 -- Slots that are taken from the end of a list.
-use Rattle.std.proofs.Common.{◌≡◌, ℕ, suc, List, [], ◌∷◌, ◌++◌, Option, Some, None, length, option_to_list, refl, sym, ap, ◌∙◌, append_assoc, append-nil, arith, length-append}
+use Rattle.std.proofs.{Common.{◌≡◌, List, [], ◌∷◌, ◌++◌, Option, Some, None, length, map, option_to_list, reverse, sym, ap, ◌∙◌, append_assoc, append-nil}, lemmas.List.{length-map, length-reverse, map-append, reverse-append}}
 use Rattle.amt_ports.specs.declared.out_link.OutLink.{Ghosts}
 use Rattle.replication_workers.specs.{Slots.{from_the_end, ready_worker, replicator_of}, declared.{replicator.Replicator.{Replicator}, slot.ReadySlot.{ReadySlot}}}
 
-one_longer : {A : Type 0} (list longer : List A) (one : A) (count : ℕ) → longer ≡ list ++ one ∷ [] → length list ≡ count → length longer ≡ suc count
-one_longer list longer one count is same = omega (arith, ap length is, length-append list (one ∷ []), same)
-
 module _ {O : Type 0} {g : Ghosts O} where
+  abbrev taken_from : ReadySlot O g → Replicator O g
+  taken_from one = replicator_of (ready_worker one)
+
   -- the last one comes first
   pub from_the_end-last : (ready : List (ReadySlot O g)) (one : ReadySlot O g) → from_the_end (ready ++ one ∷ []) ≡ replicator_of (ready_worker one) ∷ from_the_end ready
-  from_the_end-last [] one = refl
-  from_the_end-last (first ∷ ready) one = ap (λ (list : List (Replicator O g)). list ++ replicator_of (ready_worker first) ∷ []) (from_the_end-last ready one)
+  from_the_end-last ready one = ap reverse (map-append taken_from ready (one ∷ [])) ∙ reverse-append (map taken_from ready) (taken_from one ∷ [])
 
   pub length-from_the_end : (ready : List (ReadySlot O g)) → length (from_the_end ready) ≡ length ready
-  length-from_the_end [] = refl
-  length-from_the_end (first ∷ ready) = one_longer (from_the_end ready) (from_the_end (first ∷ ready)) (replicator_of (ready_worker first)) (length ready) refl (length-from_the_end ready)
+  length-from_the_end ready = length-reverse (map taken_from ready) ∙ length-map ready taken_from
 
   -- one goes from the end of one list to the end of the other
   pub moved_back : (slots longer : List (Replicator O g)) (later ready : List (ReadySlot O g)) (one : ReadySlot O g) → ready ≡ later ++ one ∷ []

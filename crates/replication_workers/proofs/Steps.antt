@@ -1,11 +1,11 @@
 -- Each step keeps the rule of the queue.
-use Rattle.std.{proofs.Common.{◌≡◌, ◌≢◌, ℕ, zero, suc, ◌≤◌, ◌^◌, true, true≢false, List, [], ◌∷◌, ◌++◌, length, set, refl, sym, ap, subst, ◌∙◌, ⊎_elim, append_assoc, arith, length-append}, specs.declared.snapshot.Snapshot.{Snapshot}}
+use Rattle.std.proofs.Common.{◌≡◌, ◌≢◌, ℕ, zero, suc, ◌≤◌, ◌^◌, true, true≢false, List, [], ◌∷◌, ◌++◌, length, set, refl, sym, ap, subst, ◌∙◌, ⊎_elim, append_assoc, arith, length-append}
 use mathlib.Core.Option.{some, some-ne-none}
 use lib.ListN.{get_elem?}
 use Rattle.crossbeam_channel.specs.Fifo.{Forks, Learns, Merges, Pops, Pushes}
 use Rattle.atomic_table.proofs.Lists.{at_set, at_snoc}
 use Rattle.published_table.specs.declared.view.View.{View}
-use Rattle.replication_workers.{proofs.Queues.{jobs_of-append, of_home-append, of_home-first, of_home-later}, specs.{Queue.{AddsUp, AreOfHome, FitsEnd, HasTaken, MayPut, QueueRule, StopIsLast, jobs_of, joined_end, putting_end, settled, spent_end, taking_end, whole_end, with_put, with_taken}, declared.{job.Job.{Job}, queue.{End.{End}, Item.{Item, TheVariants.{Home}}}}}}
+use Rattle.replication_workers.{proofs.Queues.{jobs_of-append, of_home-first, of_home-later}, specs.{Queue.{AddsUp, AreOfHome, FitsEnd, HasTaken, IsLawful, MayPut, QueueRule, StopIsLast, home_after, jobs_of, joined_end, putting_end, spent_end, taking_end, whole_end, with_put, with_taken}, declared.{job.Job.{Job}, queue.{End.{End}, Item.{Item}}}}}
 
 abbrev Holds : List Item → List End → Type 0
 Holds items ends = QueueRule items ends
@@ -32,65 +32,35 @@ begins = record {
   put = [];
   taken = [];
   in_order = refl;
-  few = omega arith;
-  last = tt;
-  of_home = tt;
+  lawful = record { few = omega arith; last = tt; of_home = tt };
   each = each_set (FitsEnd 0 0 [] [] []) (whole_end ∷ []) 0 whole_end (record { putting = λ _. (refl, refl, refl); taking = λ _. (refl, refl, refl) }) (λ seat known other is. absurd (other (at_end [] _ known seat (λ none. some-ne-none known (sym none)) is)));
 }
-
--- the only holder of a new queue tells whose jobs it is for
-pub settles : (places port : ℕ) (home : Snapshot View) → Pushes Holds places port whole_end (Home home) (λ after. after ≡ settled whole_end (Home home))
-settles places port home items ends _ rule at =
-    let mine = rule.each port whole_end at in
-    let puts = mine.putting refl in
-    let takes = mine.taking refl in
-    let item : Item = Home home in
-    let after : End = settled whole_end item in
-    let none : rule.put ≡ [] = sym puts.2 in (
-      after,
-      record {
-        putter = rule.putter;
-        taker = rule.taker;
-        home = home.value ∷ [];
-        put = rule.put ++ item ∷ [];
-        taken = rule.taken;
-        in_order = ap (λ (list : List Item). list ++ item ∷ []) rule.in_order ∙ append_assoc rule.taken items (item ∷ []);
-        few = subst (λ (list : List Item). length (jobs_of (list ++ item ∷ [])) ≤ 2 ^ 46) (sym none) (omega arith);
-        last = subst (λ (list : List Item). StopIsLast (list ++ item ∷ [])) (sym none) tt;
-        of_home = subst (λ (list : List Item). AreOfHome (home.value ∷ []) (jobs_of (list ++ item ∷ []))) (sym none) tt;
-        each = each_set (FitsEnd rule.putter rule.taker (home.value ∷ []) (rule.put ++ item ∷ []) rule.taken) ends port after
-            (record { putting = λ _. (puts.0, refl, ap (λ (list : List Item). list ++ item ∷ []) puts.2); taking = λ _. (takes.0, refl, takes.2) })
-            (λ other known apart is. record {
-              putting = λ may. absurd (apart (((rule.each other known is).putting may).0 ∙ sym puts.0));
-              taking = λ may. absurd (apart (((rule.each other known is).taking may).0 ∙ sym takes.0));
-            });
-      },
-      refl,
-    )
 
 pub puts : (places port : ℕ) (known : End) (item : Item) → MayPut known item → Pushes Holds places port known item (λ after. after ≡ with_put known item)
 puts places port known item may items ends _ rule at =
     let mine = rule.each port known at in
     let here = mine.putting may.puts in
     let after : End = with_put known item in
+    let home : List View = home_after known.home item in
     let all : known.put ++ item ∷ [] ≡ rule.put ++ item ∷ [] = ap (λ (list : List Item). list ++ item ∷ []) here.2 in (
       after,
       record {
         putter = rule.putter;
         taker = rule.taker;
-        home = rule.home;
+        home = home;
         put = rule.put ++ item ∷ [];
         taken = rule.taken;
         in_order = ap (λ (list : List Item). list ++ item ∷ []) rule.in_order ∙ append_assoc rule.taken items (item ∷ []);
-        few = subst (λ (list : List Item). length (jobs_of list) ≤ 2 ^ 46) all may.few;
-        last = subst StopIsLast all may.last;
-        of_home = subst (AreOfHome rule.home) (sym (jobs_of-append rule.put (item ∷ [])))
-            (of_home-append rule.home (jobs_of rule.put) (jobs_of (item ∷ [])) rule.of_home (subst (λ (home : List View). AreOfHome home (jobs_of (item ∷ []))) here.1 may.of_home));
-        each = each_set (FitsEnd rule.putter rule.taker rule.home (rule.put ++ item ∷ []) rule.taken) ends port after
-            (record { putting = λ _. (here.0, here.1, all); taking = mine.taking })
-            (λ other one apart is. record {
-              putting = λ also. absurd (apart (((rule.each other one is).putting also).0 ∙ sym here.0));
-              taking = (rule.each other one is).taking;
+        lawful = subst (IsLawful home) all (may.lawful (subst (λ (of : List View × List Item). IsLawful of.0 of.1) (λ i. (sym here.1 i, sym here.2 i)) rule.lawful));
+        each = each_set (FitsEnd rule.putter rule.taker home (rule.put ++ item ∷ []) rule.taken) ends port after
+            (record { putting = λ _. (here.0, refl, all); taking = λ also. ((mine.taking also).0, refl, (mine.taking also).2) })
+            (λ other one apart is.
+            let theirs = rule.each other one is in
+            record {
+              putting = λ also. absurd (apart ((theirs.putting also).0 ∙ sym here.0));
+              taking = λ also.
+                  let its = theirs.taking also in
+                  (its.0, its.1 ∙ ⊎_elim (λ same. sym (same ∙ here.1)) (λ takes. absurd (apart (its.0 ∙ sym (mine.taking takes).0))) may.alone, its.2);
             });
       },
       refl,
@@ -123,9 +93,7 @@ takes port known may item items ends rule at =
         put = rule.put;
         taken = taken;
         in_order = rule.in_order ∙ sym (append_assoc rule.taken (item ∷ []) items);
-        few = rule.few;
-        last = rule.last;
-        of_home = rule.of_home;
+        lawful = rule.lawful;
         each = each_set (FitsEnd rule.putter rule.taker rule.home rule.put taken) ends port after
             (record { putting = mine.putting; taking = λ _. (here.0, here.1, same) })
             (λ other one apart is. record {
@@ -135,8 +103,8 @@ takes port known may item items ends rule at =
       },
       record {
         after_is = refl;
-        few = subst (λ (list : List Item). length (jobs_of list) ≤ 2 ^ 46) (sym same) (few_taken rule.taken rule.put items item rule.in_order rule.few);
-        of_home = subst (λ (home : List View). AreOfHome home (jobs_of (item ∷ []))) (sym here.1) (of_home_taken rule.home rule.taken rule.put items item rule.in_order rule.of_home);
+        few = subst (λ (list : List Item). length (jobs_of list) ≤ 2 ^ 46) (sym same) (few_taken rule.taken rule.put items item rule.in_order rule.lawful.few);
+        of_home = subst (λ (home : List View). AreOfHome home (jobs_of (item ∷ []))) (sym here.1) (of_home_taken rule.home rule.taken rule.put items item rule.in_order rule.lawful.of_home);
       },
     )
 
@@ -158,9 +126,7 @@ forks port known may_put may_take items ends rule at =
       put = rule.put;
       taken = rule.taken;
       in_order = rule.in_order;
-      few = rule.few;
-      last = rule.last;
-      of_home = rule.of_home;
+      lawful = rule.lawful;
       each = λ seat one is. ⊎_elim
           (λ was. record { putting = (old seat one was).0; taking = λ also. absurd ((old seat one was).1 also) })
           (λ (new : right ≡ one). record {
@@ -193,9 +159,7 @@ merges port known other theirs may_put may_take items ends rule at apart at_othe
       put = rule.put;
       taken = rule.taken;
       in_order = rule.in_order;
-      few = rule.few;
-      last = rule.last;
-      of_home = rule.of_home;
+      lawful = rule.lawful;
       each = each_set Fits now other spent_end (record { putting = λ also. absurd (true≢false (sym also)); taking = λ also. absurd (true≢false (sym also)) }) (λ seat one away is. each seat one is away);
     }
 
@@ -204,5 +168,5 @@ totals port known may_put may_take items ends rule at =
     let mine = rule.each port known at in
     let puts = mine.putting may_put in (
       puts.2 ∙ rule.in_order ∙ ap (λ (list : List Item). list ++ items) (sym (mine.taking may_take).2),
-      subst StopIsLast (sym puts.2) rule.last,
+      subst StopIsLast (sym puts.2) rule.lawful.last,
     )

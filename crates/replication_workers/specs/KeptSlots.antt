@@ -1,7 +1,7 @@
 -- What is read of a dispatcher's slot.
-use Rattle.std.specs.{Prelude.{◌≡◌, Bool, true, false, List, ◌++◌, map}, List.{All}}
+use Rattle.std.specs.{Prelude.{◌≡◌, ℕ, ◌+◌, Bool, true, false, List, ◌++◌, length, map}, List.{All}}
 use Rattle.amt_ports.specs.declared.out_link.OutLink.{Ghosts}
-use Rattle.replication_workers.specs.{InlineSlots.{inline_state, replicator_now}, SlotStates.{SlotState, new_slot}, Slots.{jobs_put, replicator_of, started_of, worker_of}, declared.{dispatcher.kept.Kept.{Kept, TheVariants.{Threaded, Inline}}, replicator.Replicator.{Replicator}, worker.Worker.{Worker}}}
+use Rattle.replication_workers.specs.{InlineSlots.{inline_state, replicator_now}, Replicators.{HasCopied}, SlotStates.{CopiedAt, SlotState, jobs_in_all, new_slot, with_job, with_one_job}, Slots.{jobs_put, replicator_of, started_of, worker_of}, declared.{dispatcher.kept.Kept.{Kept, TheVariants.{Threaded, Inline}}, job.Job.{Job}, replicator.Replicator.{Replicator}, worker.Worker.{Worker}}}
 
 module _ {O T : Type 0} {g : Ghosts O} where
   -- its replicator as it was given, and the jobs that it was given since
@@ -32,13 +32,28 @@ module _ {O T : Type 0} {g : Ghosts O} where
   abbrev pub AreThreaded : Bool → List (Kept O T g) → Type 0
   AreThreaded threads slots = All (λ slot. is_threaded_slot slot ≡ threads) slots
 
-  -- new slots of these replicators that the dispatcher keeps were added at the end
+  -- the slot was given the job, and copied it where no worker has its replicator
+  pub record IsGiven (job : Job) (before after : Kept O T g) : Type 0 where
+    pub state : state_of after ≡ with_one_job job (state_of before)
+    pub kind : is_threaded_slot after ≡ is_threaded_slot before
+    pub run : KeepsRun before after
+    pub copied : is_threaded_slot before ≡ false → HasCopied (now_of before) job (now_of after)
+
+  -- the slot at this place was given the job, and no other
+  pub record AreGiven (place : ℕ) (job : Job) (before after : List (Kept O T g)) : Type 0 where
+    pub states : map state_of after ≡ with_job place job (map state_of before)
+    pub jobs : jobs_in_all (map state_of after) ≡ jobs_in_all (map state_of before) + 1
+    pub number : length after ≡ length before
+    pub kinds : (threads : Bool) → AreThreaded threads before → AreThreaded threads after
+    pub run : (task_of : T → Worker O g) → All (IsRunBy task_of) before → All (IsRunBy task_of) after
+    pub copied : AreThreaded false before → CopiedAt place job (map now_of before) (map now_of after)
+
+  -- slots of these replicators that the dispatcher keeps were added at the end, none with a job
   pub record HasKept (replicators : List (Replicator O g)) (before after : List (Kept O T g)) : Type 0 where
-    pub added : List (Kept O T g)
-    pub after_is : after ≡ before ++ added
-    pub states : map state_of added ≡ map new_slot replicators
-    pub now : map now_of added ≡ replicators
-    pub kind : AreThreaded false added
+    pub states : map state_of after ≡ map state_of before ++ map new_slot replicators
+    pub now : map now_of after ≡ map now_of before ++ replicators
+    pub kinds : AreThreaded false before → AreThreaded false after
+    pub run : (task_of : T → Worker O g) → All (IsRunBy task_of) before → All (IsRunBy task_of) after
 
   -- workers over these replicators were started, and no job is put yet
   pub record AreStarted (task_of : T → Worker O g) (replicators : List (Replicator O g)) (slots : List (Kept O T g)) : Type 0 where

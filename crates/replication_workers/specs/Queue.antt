@@ -1,5 +1,5 @@
 -- The rule of a worker's queue, and what its ends know.
-use Rattle.std.specs.{Prelude.{◌≡◌, ℕ, ◌≤◌, ◌^◌, Bool, true, false, List, [], ◌∷◌, ◌++◌, length, map}, List.{AllByRecursion}}
+use Rattle.std.specs.{Prelude.{◌≡◌, ◌⊎◌, ℕ, ◌≤◌, ◌^◌, Bool, true, false, List, [], ◌∷◌, ◌++◌, length, map}, List.{AllByRecursion}}
 use mathlib.Core.Option.{some}
 use lib.ListN.{get_elem?}
 use Rattle.published_table.specs.{Views.{note_publisher, publisher_of}, declared.view.View.{View}}
@@ -48,8 +48,13 @@ pub record FitsEnd (putter taker : ℕ) (home : List View) (put taken : List Ite
 abbrev pub FitEach : ℕ → ℕ → List View → List Item → List Item → List End → Type 0
 FitEach putter taker home put taken ends = (seat : ℕ) (known : End) → get_elem? ends seat ≡ some known → FitsEnd putter taker home put taken seat known
 
--- What was put is what was taken and then what the queue holds. At most 2^46 jobs are put, all of one
--- publisher, and nothing is put after Stop.
+-- at most 2^46 jobs are put, all of one publisher, and nothing is put after Stop
+pub record IsLawful (home : List View) (put : List Item) : Type 0 where
+  pub few : length (jobs_of put) ≤ 2 ^ 46
+  pub last : StopIsLast put
+  pub of_home : AreOfHome home (jobs_of put)
+
+-- what was put is what was taken and then what the queue holds
 pub record QueueRule (items : List Item) (ends : List End) : Type 0 where
   pub putter : ℕ
   pub taker : ℕ
@@ -57,9 +62,7 @@ pub record QueueRule (items : List Item) (ends : List End) : Type 0 where
   pub put : List Item
   pub taken : List Item
   pub in_order : put ≡ taken ++ items
-  pub few : length (jobs_of put) ≤ 2 ^ 46
-  pub last : StopIsLast put
-  pub of_home : AreOfHome home (jobs_of put)
+  pub lawful : IsLawful home put
   pub each : FitEach putter taker home put taken ends
 
 -- what a holder knows, of these parts
@@ -70,15 +73,15 @@ end_of puts takes home put taken = record { puts = puts; takes = takes; home = h
 abbrev pub whole_end : End
 whole_end = end_of true true [] [] []
 
--- it was told whose jobs the queue is for
-abbrev pub settled : End → Item → End
-settled known (Home view) = end_of known.puts known.takes (view.value ∷ []) (known.put ++ Home view ∷ []) known.taken
-settled known (Work job) = known
-settled known Stop = known
+-- whose jobs the queue is for once the item is put: the first item tells it
+abbrev pub home_after : List View → Item → List View
+home_after home (Home view) = view.value ∷ []
+home_after home (Work job) = home
+home_after home Stop = home
 
 -- with one more that was put
 abbrev pub with_put : End → Item → End
-with_put known item = end_of known.puts known.takes known.home (known.put ++ item ∷ []) known.taken
+with_put known item = end_of known.puts known.takes (home_after known.home item) (known.put ++ item ∷ []) known.taken
 
 -- with one more that was taken
 abbrev pub with_taken : End → Item → End
@@ -113,7 +116,6 @@ pub record IsPutting (known : End) : Type 0 where
   pub puts : known.puts ≡ true
   pub takes : known.takes ≡ false
   pub opened : has_stop known.put ≡ false
-  pub few : length (jobs_of known.put) ≤ 2 ^ 46
 
 -- it has put Stop
 pub record HasStopped (known : End) : Type 0 where
@@ -130,9 +132,8 @@ pub record HasEnded (known : End) : Type 0 where
   pub takes : known.takes ≡ true
   pub ended : EndsWithStop known.taken
 
--- what may be put next
+-- what may be put next: it tells whose jobs the queue is for only where no other holder takes
 pub record MayPut (known : End) (item : Item) : Type 0 where
   pub puts : known.puts ≡ true
-  pub last : StopIsLast (known.put ++ item ∷ [])
-  pub few : length (jobs_of (known.put ++ item ∷ [])) ≤ 2 ^ 46
-  pub of_home : AreOfHome known.home (jobs_of (item ∷ []))
+  pub alone : (home_after known.home item ≡ known.home) ⊎ (known.takes ≡ true)
+  pub lawful : IsLawful known.home known.put → IsLawful (home_after known.home item) (known.put ++ item ∷ [])

@@ -1,5 +1,5 @@
 -- What is read of a slot.
-use Rattle.std.specs.Prelude.{◌≡◌, List, [], ◌∷◌, ◌++◌, length}
+use Rattle.std.specs.Prelude.{◌≡◌, List, length, map, reverse}
 use Rattle.crossbeam_channel.specs.Claims.{view}
 use Rattle.amt_ports.specs.declared.out_link.OutLink.{Ghosts}
 use Rattle.replication_workers.specs.{Queue.{jobs_of}, Workers.{HasHandled}, declared.{job.Job.{Job}, replicator.Replicator.{Replicator}, slot.{Left.{Left}, ReadySlot.{ReadySlot}, Slot.{Slot}}, worker.Worker.{Worker}}}
@@ -20,8 +20,7 @@ module _ {O : Type 0} {g : Ghosts O} where
 
   -- the replicators of slots that are taken from the end of this list
   abbrev pub from_the_end : List (ReadySlot O g) → List (Replicator O g)
-  from_the_end [] = []
-  from_the_end (ready ∷ others) = from_the_end others ++ replicator_of (ready_worker ready) ∷ []
+  from_the_end ready = reverse (map (λ one. replicator_of (ready_worker one)) ready)
 
   module _ {T : Type 0} where
     -- the worker that was started

@@ -1,8 +1,8 @@
 -- What a start of several workers does.
-use Rattle.std.specs.Prelude.{◌≡◌, ℕ, zero, suc, List, ◌∷◌, ◌++◌, length, Option, Some, None}
+use Rattle.std.specs.Prelude.{◌≡◌, ℕ, zero, suc, List, ◌∷◌, ◌++◌, length, map, Option, Some, None}
 use Rattle.amt_ports.specs.{Causes.{next_count}, declared.out_link.OutLink.{Ghosts}}
 use Rattle.published_table.specs.{Views.{views_of}, declared.view.View.{View}}
-use Rattle.replication_workers.specs.{Backs.{AreBack}, KeptSlots.{AreStarted}, declared.{dispatcher.{StartFault.{StartFault, TheVariants.{Memory, Failed}}, kept.Kept.{Kept}}, replicator.Replicator.{Replicator}, worker.Worker.{Worker}}}
+use Rattle.replication_workers.specs.{Backs.{AreBack}, KeptSlots.{AreStarted, state_of}, SlotStates.{new_slot}, declared.{dispatcher.{StartFault.{StartFault, TheVariants.{Memory, Failed}}, kept.Kept.{Kept}}, replicator.Replicator.{Replicator}, worker.Worker.{Worker}}}
 
 -- so many more, but for the last value of a counter, which stays
 abbrev pub count_on : ℕ → ℕ → ℕ
@@ -36,11 +36,9 @@ module _ {O : Type 0} {g : Ghosts O} where
     pub back : AreBack (earlier ++ later) outs views
 
 module _ {O T : Type 0} {g : Ghosts O} where
-  -- whichever replicators they were of which one was refused its start
-  abbrev pub GivesAllButOne : (T → Worker O g) → List (Replicator O g) → List (Kept O T g) → List O → List View → Type 0
-  GivesAllButOne task_of left slots outs views =
-      (all : List (Replicator O g)) → (before after : Option ℕ)
-      → HasRefusedOne task_of all left slots before after → AllButOneBack all before after outs views
+  -- whichever replicators these slots were started with, their links and views came back, and then those of the others
+  abbrev pub GivesBack : List (Kept O T g) → List (Replicator O g) → List O → List View → Type 0
+  GivesBack slots others outs views = (given : List (Replicator O g)) → map state_of slots ≡ map new_slot given → AreBack (given ++ others) outs views
 
 module _ {O : Type 0} {g : Ghosts O} where
   -- a fact of the replicators that come back without memory

@@ -1,11 +1,11 @@
 -- What a worker gives.
-use Rattle.std.specs.Prelude.{◌≡◌, ◌≤◌, ◌+◌, ◌*◌, ℕ, List, length}
+use Rattle.std.specs.Prelude.{◌≡◌, ◌≤◌, ◌+◌, ◌*◌, ℕ, List, [], ◌∷◌, ◌++◌, length}
 use Rattle.crossbeam_channel.specs.{Claims.{IsSeatAt, view}, Ends.{receives_on}}
 use Rattle.amt_ports.specs.{declared.out_link.OutLink.{Ghosts}, Tried.{HasTried}}
 use Rattle.amt_values.specs.declared.peer.Peer.{Peer}
 use Rattle.endpoint_membership.specs.declared.change.Change.{Change}
 use Rattle.published_table.specs.{Terms.{settings_by}, Views.{publisher_of, seen, terms_of}, declared.view.View.{View}}
-use Rattle.replication_workers.specs.{Jobs.{Handled}, Queue.{HasEnded, jobs_of}, Replicators.{limit_of, out_of, view_of}, declared.{job.Job.{Job}, replicator.Replicator.{Replicator}, worker.{Worker.{Worker}, WorkerDone.{WorkerDone}}}}
+use Rattle.replication_workers.specs.{Jobs.{Handled}, Queue.{HasEnded, jobs_of}, Replicators.{limit_of, out_of, view_of}, declared.{counts.Counts.{Counts}, job.Job.{Job}, replicator.Replicator.{Replicator}, worker.{Worker.{Worker}, WorkerDone.{WorkerDone}}}}
 
 -- the jobs that a worker took before Stop
 abbrev pub jobs_taken : {O : Type 0} → WorkerDone O → List Job
@@ -27,6 +27,13 @@ module _ {O : Type 0} {g : Ghosts O} where
     pub terms : terms_of view ≡ terms_of (view_of replicator)
     pub publisher : publisher_of view ≡ publisher_of (view_of replicator)
     pub few : sent + unsent ≤ 65536 * length jobs
+
+  -- whatever jobs were handled before this one, it was handled after them
+  abbrev pub KeepsHandled : Replicator O g → Counts → Job → Replicator O g → Counts → Type 0
+  KeepsHandled before counts job after counts_after =
+      (first : Replicator O g) (jobs : List Job) → limit_of before ≡ limit_of first
+      → HasHandled first jobs (out_of before) (view_of before) counts.sent counts.unsent
+      → HasHandled first (jobs ++ job ∷ []) (out_of after) (view_of after) counts_after.sent counts_after.unsent
 
   -- it took jobs until Stop, and handled exactly these
   pub record WorkerGives (worker : Worker O g) (done : WorkerDone O) : Type 0 where

@@ -10,6 +10,7 @@
 #![tactic(auto)]
 
 mod batch;
+mod counts;
 mod dispatcher;
 mod job;
 mod queue;

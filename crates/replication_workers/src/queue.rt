@@ -54,22 +54,6 @@ impl Protocol<Item, End> for InOrder {
     ghost first = { whole_end };
 }
 
-/// The first put, which tells both ends the publisher.
-pub struct Settles;
-
-impl Outcome<Item, End> for Settles {
-    ghost use Rattle.std.specs.Prelude.{◌≡◌};
-    ghost use Rattle.replication_workers.specs.Queue.{settled};
-
-    ghost then = { λ before item after. after ≡ settled before item };
-}
-
-impl Lesson<Item, End> for Settles {
-    ghost use Rattle.std.specs.Prelude.{⊤};
-
-    ghost fact = { λ end items. ⊤ };
-}
-
 /// A put.
 pub struct Puts;
 

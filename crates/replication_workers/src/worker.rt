@@ -1,10 +1,10 @@
 //! What takes jobs from a queue and copies their packets.
-ghost use Rattle.std.specs.Prelude.{◌≡◌, ◌≤◌, ◌<◌, ◌+◌, ◌^◌, [], ◌∷◌, map};
+ghost use Rattle.std.specs.Prelude.{◌≡◌, [], ◌∷◌, map};
 ghost use Rattle.crossbeam_channel.specs.{Claims.{IsSeatAt, view}, Ends.{receives_on}};
-ghost use Rattle.published_table.specs.{Lists.{BeginsWith, BeginsWithEach}, Views.{named, note_publisher, publisher_of, seen, terms_of, told}};
-ghost use Rattle.replication_workers.specs.{Queue.{IsTaking}, Replicators.{Tries, copies_due, limit_of, view_of}};
+ghost use Rattle.published_table.specs.Views.{publisher_of};
+ghost use Rattle.replication_workers.specs.{Queue.{IsTaking}, Replicators.{view_of}};
 
-use crate::job::{Copied, Job};
+use crate::counts::{Counts, handle};
 use crate::queue::{Item, QueuePass, Receiver, Takes};
 use crate::replicator::Replicator;
 use crate::slot::Left;
@@ -97,38 +97,6 @@ impl<O> WorkerDone<O> {
     }
 }
 
-fn count_job(jobs: &mut u64)
-    requires { jobs.old < 2 ^ 46 }
-    ensures { jobs.new ≡ jobs.old + 1 }
-{
-    *jobs += 1;
-}
-
-// Handles the job, counts it, and says what became of its datagrams.
-fn handle<O: OutLink, R: Wait>(
-    rt: &R,
-    replicator: &mut Replicator<O>,
-    jobs: &mut u64,
-    job: Job,
-) -> Copied
-    requires publisher { note_publisher job.note ≡ publisher_of (view_of replicator.old) }
-    requires jobs { jobs.old < 2 ^ 46 }
-    ensures counted { jobs.new ≡ jobs.old + 1 }
-    ensures view { (terms_of (view_of replicator.new) ≡ terms_of (view_of replicator.old))
-        × (publisher_of (view_of replicator.new) ≡ publisher_of (view_of replicator.old))
-        × (limit_of replicator.new ≡ limit_of replicator.old) }
-    ensures further { BeginsWith (seen (view_of replicator.new)) (seen (view_of replicator.old)) }
-    ensures told { BeginsWithEach (seen (view_of replicator.new))
-        (named job.note ∷ told (view_of replicator.old)) }
-    ensures sends { Tries replicator.old replicator.new
-        (copies_due replicator.old (seen (view_of replicator.new)) job.at job.packet)
-        result.sent result.unsent }
-    ensures few { result.sent + result.unsent ≤ 65536 }
-{
-    count_job(jobs);
-    replicator.replicate(rt, job)
-}
-
 impl<O: OutLink + Drop> Task for Worker<O> {
     ghost use Rattle.replication_workers.specs.Workers.{WorkerGives};
 
@@ -143,18 +111,15 @@ impl<O: OutLink + Drop> Task for Worker<O> {
             inbox,
             mut pass,
         } = self;
-        let mut jobs = 0u64;
-        let mut sent = 0u64;
-        let mut unsent = 0u64;
+        let mut counts = Counts::none();
         for _ in rt.forever() {
             match inbox.recv_as::<Takes, R>(rt, &mut pass) {
                 Ok(Item::Work(job)) => {
-                    let copied = handle(rt, &mut replicator, &mut jobs, job);
-                    sent += u64::from(copied.sent);
-                    unsent += u64::from(copied.unsent);
+                    handle(rt, &mut replicator, &mut counts, job);
                 }
                 Ok(Item::Stop) => {
                     let (view, out) = replicator.into_parts();
+                    let Counts { jobs, sent, unsent } = counts;
                     return WorkerDone {
                         out,
                         view,

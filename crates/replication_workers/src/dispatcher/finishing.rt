@@ -1,7 +1,6 @@
 //! How all slots are ended.
-ghost use Rattle.std.specs.{Prelude.{◌≡◌, ◌≤◌, ◌^◌, false, length, map}, List.{All}};
-ghost use Rattle.published_table.specs.Views.{views_of};
-ghost use Rattle.replication_workers.specs.{Gathering.{HasRoom, IsFresh}, KeptSlots.{AreThreaded, IsRunBy, now_of, state_of}, Replicators.{out_of, view_of}, SlotStates.{HaveLeft, jobs_in_all}};
+ghost use Rattle.std.specs.{Prelude.{◌≡◌, ◌≤◌, ◌^◌, length, map}, List.{All}};
+ghost use Rattle.replication_workers.specs.{Gathering.{HasRoom, HaveEnded, IsFresh}, KeptSlots.{IsRunBy, state_of}, SlotStates.{jobs_in_all}};
 
 use super::gathered::Gathered;
 use super::kept::{Kept, finish_kept};
@@ -20,10 +19,7 @@ pub fn finish_all<O: OutLink + Drop, R: Wait, P: Spawner<Worker<O>>>(
     requires room { HasRoom (length kept.items) gathered }
     requires few { jobs_in_all (map state_of kept.items) ≤ 2 ^ 46 }
     requires run { All (IsRunBy P.task_of) kept.items }
-    ensures left { HaveLeft (map state_of kept.items) result.outs.items (views_of result.views) result.sent result.unsent }
-    ensures jobs { result.jobs ≡ jobs_in_all (map state_of kept.items) }
-    ensures outs { AreThreaded false kept.items → result.outs.items ≡ map out_of (map now_of kept.items) }
-    ensures views { AreThreaded false kept.items → views_of result.views ≡ map view_of (map now_of kept.items) }
+    ensures ended { HaveEnded kept.items result }
     ensures starts { P.starts spawner.new ≡ P.starts spawner.old }
     ensures faults { P.faults spawner.new ≡ P.faults spawner.old }
 {

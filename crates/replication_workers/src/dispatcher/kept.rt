@@ -6,7 +6,7 @@ use amt_ports::OutLink;
 
 mod using;
 
-pub use using::finish_kept;
+pub use using::{finish_kept, give_at};
 
 /// A slot, by who copies its jobs.
 pub enum Kept<O: OutLink, T> {

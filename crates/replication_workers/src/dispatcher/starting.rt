@@ -2,7 +2,7 @@
 ghost use Rattle.std.specs.{Prelude.{◌≡◌, ◌≤◌, ◌+◌, [], true, false, length, map, vec_capacity, IfErr, IfOk, OnErr, OnOk}, List.{All}};
 ghost use Rattle.amt_ports.specs.Causes.{Rose};
 ghost use Rattle.published_table.specs.Views.{views_of};
-ghost use Rattle.replication_workers.specs.{Dispatchers.{AllRun, held_by, is_threaded, slots_of}, Gathering.{HasRoom, IsFresh}, KeptSlots.{IsRunBy, state_of}, SlotStates.{jobs_in_all, new_slot}, Slots.{from_the_end}, Starting.{AllButOneBack, GivesAllButOne, HaveStarted, OnFailed, OnMemory}};
+ghost use Rattle.replication_workers.specs.{Dispatchers.{AllRun, held_by, is_threaded, slots_of}, Gathering.{HasRoom, IsFresh}, KeptSlots.{IsRunBy, state_of}, SlotStates.{jobs_in_all, new_slot}, Slots.{from_the_end}, Starting.{AllButOneBack, GivesBack, HaveStarted, OnFailed, OnMemory}};
 
 use super::filling::{keep_inline, start_each};
 use super::finishing::finish_all;
@@ -35,7 +35,7 @@ fn give_back<O: OutLink + Drop, R: Wait, P: Spawner<Worker<O>>>(
     requires room { HasRoom (length kept.items + length ready.items) gathered }
     requires idle { jobs_in_all (map state_of kept.items) ≡ 0 }
     requires run { All (IsRunBy P.task_of) kept.items }
-    ensures back { GivesAllButOne P.task_of (from_the_end ready.items) kept.items result.0 (views_of result.1) }
+    ensures back { GivesBack kept.items (from_the_end ready.items) result.0 (views_of result.1) }
     ensures starts { P.starts spawner.new ≡ P.starts spawner.old }
     ensures faults { P.faults spawner.new ≡ P.faults spawner.old }
 {
@@ -55,31 +55,32 @@ fn give_back<O: OutLink + Drop, R: Wait, P: Spawner<Worker<O>>>(
 fn start_workers<O: OutLink + Drop, R: Wait, P: Spawner<Worker<O>>>(
     rt: &R,
     alloc: Global,
-    mut slots: Vec<Replicator<O>>,
+    slots: Replicators<O>,
     mut kept: Vec<Kept<O, P::Started>>,
     gathered: Gathered<O>,
     spawner: &mut P,
 ) -> Result<Dispatcher<O, P::Started>, StartFault<O>>
-    requires some { 1 ≤ length slots.items }
-    requires few { length slots.items ≤ 64 }
+    requires some { 1 ≤ length slots }
+    requires few { length slots ≤ 64 }
     requires none { kept.items ≡ [] }
-    requires places { length slots.items ≤ vec_capacity kept }
+    requires places { length slots ≤ vec_capacity kept }
     requires fresh { IsFresh gathered }
-    requires room { HasRoom (length slots.items) gathered }
-    ensures slots { IfOk result (λ made. slots_of made ≡ map new_slot slots.items) }
+    requires room { HasRoom (length slots) gathered }
+    ensures slots { IfOk result (λ made. slots_of made ≡ map new_slot slots) }
     ensures mode { IfOk result (λ made. is_threaded made ≡ true) }
     ensures run { IfOk result (AllRun P.task_of) }
-    ensures starts { OnOk result (HaveStarted (length slots.items) (P.starts spawner.old) (P.starts spawner.new)) }
+    ensures starts { OnOk result (HaveStarted (length slots) (P.starts spawner.old) (P.starts spawner.new)) }
     ensures quiet { OnOk result (P.faults spawner.new ≡ P.faults spawner.old) }
 
-    ensures memory { IfErr result (λ fault. OnMemory fault (λ back. back ≡ slots.items)) }
+    ensures memory { IfErr result (λ fault. OnMemory fault (λ back. back ≡ slots)) }
     ensures before { IfErr result (λ fault. OnMemory fault (λ _. (P.starts spawner.new ≡ P.starts spawner.old)
         × (P.faults spawner.new ≡ P.faults spawner.old))) }
     ensures failed { IfErr result (λ fault. OnFailed fault
-        (AllButOneBack slots.items (P.starts spawner.old) (P.starts spawner.new))) }
+        (AllButOneBack slots (P.starts spawner.old) (P.starts spawner.new))) }
     ensures cause { IfErr result (λ fault. OnFailed fault
         (λ _ _. Rose (P.faults spawner.old) (P.faults spawner.new))) }
 {
+    let mut slots = slots.into_items();
     let Ok(mut ready) = ready_all(rt, alloc, &mut slots) else {
         kept.destroy_empty();
         return Err(StartFault::Memory(Batch::from(slots)));
@@ -99,21 +100,21 @@ fn start_workers<O: OutLink + Drop, R: Wait, P: Spawner<Worker<O>>>(
 
 // Keeps the replicators, to copy jobs on the calling thread.
 fn keep_all<O: OutLink + Drop, T>(
-    slots: Vec<Replicator<O>>,
+    slots: Replicators<O>,
     mut kept: Vec<Kept<O, T>>,
     gathered: Gathered<O>,
 ) -> Dispatcher<O, T>
-    requires some { 1 ≤ length slots.items }
-    requires few { length slots.items ≤ 64 }
+    requires some { 1 ≤ length slots }
+    requires few { length slots ≤ 64 }
     requires none { kept.items ≡ [] }
-    requires places { length slots.items ≤ vec_capacity kept }
+    requires places { length slots ≤ vec_capacity kept }
     requires fresh { IsFresh gathered }
-    requires room { HasRoom (length slots.items) gathered }
-    ensures slots { slots_of result ≡ map new_slot slots.items }
+    requires room { HasRoom (length slots) gathered }
+    ensures slots { slots_of result ≡ map new_slot slots }
     ensures mode { is_threaded result ≡ false }
-    ensures held { held_by result ≡ slots.items }
+    ensures held { held_by result ≡ slots }
 {
-    keep_inline(&mut kept, slots);
+    keep_inline(&mut kept, slots.into_items());
     Dispatcher {
         slots: kept,
         gathered,
@@ -151,12 +152,11 @@ impl<O: OutLink + Drop, T> Dispatcher<O, T> {
         ensures cause { IfErr result (λ fault. OnFailed fault (λ _ _. (threads ≡ true)
             × Rose (P.faults spawner.old) (P.faults spawner.new))) }
     {
-        let slots = slots.into_items();
         let Ok(gathered) = Gathered::with_room(alloc, slots.len() as u32) else {
-            return Err(StartFault::Memory(Batch::from(slots)));
+            return Err(StartFault::Memory(slots));
         };
         let Ok(kept) = Vec::with_capacity(alloc, slots.len()) else {
-            return Err(StartFault::Memory(Batch::from(slots)));
+            return Err(StartFault::Memory(slots));
         };
         if threads {
             start_workers(rt, alloc, slots, kept, gathered, spawner)

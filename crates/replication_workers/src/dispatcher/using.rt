@@ -6,6 +6,7 @@ ghost use Rattle.replication_workers.specs.{Dispatchers.{AllRun, IsForSlot, Keep
 use super::choosing::choose_slot;
 use super::finishing::finish_all;
 use super::gathered::Gathered;
+use super::kept::give_at;
 use super::{Dispatcher, Finished};
 use crate::batch::Batch;
 use crate::job::Job;
@@ -34,7 +35,7 @@ impl<O: OutLink + Drop, T> Dispatcher<O, T> {
         ensures copied { is_threaded self.old ≡ false → CopiedAt result job (held_by self.old) (held_by self.new) }
     {
         let slot = choose_slot(self.slots.len() as u32, job.packet.as_slice());
-        self.slots[slot as usize].give(rt, job);
+        give_at(rt, &mut self.slots, slot, job);
         slot
     }
 

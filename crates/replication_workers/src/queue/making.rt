@@ -1,9 +1,10 @@
 //! How a queue is made.
 ghost use Rattle.std.specs.Prelude.{◌≡◌, [], ◌∷◌, IfOk};
 ghost use Rattle.crossbeam_channel.specs.{Claims.{IsSeatAt, view}, Ends.{receives_on, ruled_capacity, sends_on}};
-ghost use Rattle.replication_workers.specs.{Queue.{IsPutting, IsTaking, jobs_of, settled, whole_end}, declared.queue.Item.TheVariants.{Home}};
+ghost use Rattle.replication_workers.specs.{Queue.{IsPutting, IsTaking, jobs_of, whole_end, with_put}, declared.queue.Item.TheVariants.{Home}};
 
-use super::{End, Ends, InOrder, Item, QueuePass, Receiver, Sender, Settles};
+use super::putting::put;
+use super::{End, Ends, InOrder, Item, QueuePass, Receiver, Sender};
 use crossbeam_channel::bounded_with;
 use published_table::View;
 use std::alloc::{AllocError, Global};
@@ -14,22 +15,14 @@ use std::sync::Wait;
 // until the worker takes it, and so has Stop at last.
 const PLACES: usize = 256;
 
-// Puts whose jobs the queue is for. There is room for it, but no clause of the queue says so: where it is
-// handed back, it is put again.
+// Puts whose jobs the queue is for.
 fn settle<R: Wait>(rt: &R, sender: &Sender, pass: &mut QueuePass, home: Snapshot<View>)
     requires seat { IsSeatAt (sends_on sender.now) pass.old }
     requires new { view pass.old ≡ whole_end }
     ensures seat { IsSeatAt (sends_on sender.now) pass.new × (pass.new.id ≡ pass.old.id) }
-    ensures settled { view pass.new ≡ settled whole_end (Home home) }
+    ensures settled { view pass.new ≡ with_put whole_end (Home home) }
 {
-    let mut item = Item::Home(home);
-    for _ in rt.forever() {
-        match sender.send_as::<Settles, R>(rt, pass, item) {
-            Ok(()) => return,
-            Err(refused) => item = refused.into_inner(),
-        }
-    }
-    unreachable!()
+    put(rt, sender, pass, Item::Home(home));
 }
 
 /// A queue for jobs of this view's publisher: what puts with its pass, and what takes with its own.

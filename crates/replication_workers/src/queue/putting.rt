@@ -46,7 +46,8 @@ fn wait_and_put<R: Wait>(rt: &R, sender: &Sender, pass: &mut QueuePass, mut item
     unreachable!()
 }
 
-fn put<R: Wait>(rt: &R, sender: &Sender, pass: &mut QueuePass, item: Item)
+/// Puts the item, and waits for room where it must.
+pub fn put<R: Wait>(rt: &R, sender: &Sender, pass: &mut QueuePass, item: Item)
     requires seat { IsSeatAt (sends_on sender.now) pass.old }
     requires may { MayPut (view pass.old) item }
     ensures seat { IsSeatAt (sends_on sender.now) pass.new × (pass.new.id ≡ pass.old.id) }

@@ -1,5 +1,5 @@
 //! How what a slot left is added.
-ghost use Rattle.std.specs.Prelude.{◌≤◌, ◌+◌, ◌*◌, ◌^◌, ◌∷◌, [], IfOk};
+ghost use Rattle.std.specs.Prelude.{◌≤◌, ◌+◌, ◌*◌, ◌^◌, IfOk};
 ghost use Rattle.replication_workers.specs.Gathering.{HasAdded, HasRoom, IsFresh, LeavesRoom};
 
 use super::Gathered;
@@ -31,8 +31,8 @@ impl<O: Drop> Gathered<O> {
         requires room { HasRoom 1 self.old }
         requires jobs { self.old.jobs + left.jobs ≤ 2 ^ 46 }
         requires few { left.sent + left.unsent ≤ 65536 * left.jobs }
-        ensures added { HasAdded (left ∷ []) self.old self.new }
-        ensures room { LeavesRoom 1 self.old self.new }
+        ensures added { HasAdded left self.old self.new }
+        ensures room { LeavesRoom self.old self.new }
     {
         let Left {
             out,

@@ -4,6 +4,7 @@ ghost use Rattle.published_table.specs.Views.{note_publisher, publisher_of};
 ghost use Rattle.replication_workers.specs.{InlineSlots.{first_of, inline_state, jobs_done, replicator_now}, Replicators.{HasCopied, out_of, view_of}, SlotStates.{IsLeft}};
 
 use super::InlineSlot;
+use crate::counts::{Counts, handle};
 use crate::dispatcher::jobs_so_far::JobsSoFar;
 use crate::job::Job;
 use crate::replicator::Replicator;
@@ -24,9 +25,7 @@ impl<O: OutLink> InlineSlot<O> {
             replicator,
             first,
             handled: JobsSoFar::Nothing,
-            jobs: 0,
-            sent: 0,
-            unsent: 0,
+            counts: Counts::none(),
         }
     }
 
@@ -39,13 +38,8 @@ impl<O: OutLink> InlineSlot<O> {
         ensures copied { HasCopied (replicator_now self.old) job (replicator_now self.new) }
     {
         let handled = self.handled.then(&job);
-        let copied = self.replicator.replicate(rt, job);
-        let sent = self.sent + u64::from(copied.sent);
-        let unsent = self.unsent + u64::from(copied.unsent);
+        handle(rt, &mut self.replicator, &mut self.counts, job);
         self.handled = handled;
-        self.jobs += 1;
-        self.sent = sent;
-        self.unsent = unsent;
     }
 
     /// What the slot left.
@@ -58,10 +52,9 @@ impl<O: OutLink> InlineSlot<O> {
             replicator,
             first: _,
             handled: _handled,
-            jobs,
-            sent,
-            unsent,
+            counts,
         } = self;
+        let Counts { jobs, sent, unsent } = counts;
         let (view, out) = replicator.into_parts();
         Left {
             out,

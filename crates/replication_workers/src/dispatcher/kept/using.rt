@@ -1,7 +1,7 @@
 //! How a slot is given a job, and ended.
-ghost use Rattle.std.specs.Prelude.{◌≡◌, ◌<◌, ◌^◌, false, length};
+ghost use Rattle.std.specs.{Prelude.{◌≡◌, ◌<◌, ◌^◌, false, length, map}, List.{All}};
 ghost use Rattle.published_table.specs.Views.{note_publisher, publisher_of};
-ghost use Rattle.replication_workers.specs.{KeptSlots.{IsRunBy, KeepsRun, is_threaded_slot, now_of, state_of}, Replicators.{HasCopied, out_of, view_of}, SlotStates.{IsLeft, with_one_job}};
+ghost use Rattle.replication_workers.specs.{Dispatchers.{IsForSlot}, KeptSlots.{AreGiven, IsGiven, IsRunBy, is_threaded_slot, now_of, state_of}, Replicators.{out_of, view_of}, SlotStates.{IsLeft, jobs_in_all}};
 
 use super::Kept;
 use crate::job::Job;
@@ -15,16 +15,23 @@ impl<O: OutLink, T> Kept<O, T> {
     pub fn give<R: Wait>(&mut self, rt: &R, job: Job)
         requires few { length (state_of self.old).jobs < 2 ^ 46 }
         requires publisher { note_publisher job.note ≡ publisher_of (view_of (state_of self.old).first) }
-        ensures state { state_of self.new ≡ with_one_job job (state_of self.old) }
-        ensures kind { is_threaded_slot self.new ≡ is_threaded_slot self.old }
-        ensures run { KeepsRun self.old self.new }
-        ensures copied { is_threaded_slot self.old ≡ false → HasCopied (now_of self.old) job (now_of self.new) }
+        ensures { IsGiven job self.old self.new }
     {
         match self {
             Kept::Threaded(slot) => slot.put(rt, job),
             Kept::Inline(slot) => slot.copy(rt, job),
         }
     }
+}
+
+/// Gives the job to the slot at this place.
+pub fn give_at<O: OutLink, T, R: Wait>(rt: &R, slots: &mut Vec<Kept<O, T>>, place: u32, job: Job)
+    requires within { place < length slots.old.items }
+    requires few { jobs_in_all (map state_of slots.old.items) < 2 ^ 46 }
+    requires publisher { All (IsForSlot job) (map state_of slots.old.items) }
+    ensures { AreGiven place job slots.old.items slots.new.items }
+{
+    slots[place as usize].give(rt, job);
 }
 
 /// Ends the slot: a worker is stopped and waited for. All jobs that the slot was given are handled.

@@ -1,52 +1,53 @@
-use Rattle.std.proofs.{Common.{◌≡◌, ◌∙◌, ℕ, suc, vec_len, refl, sym, ap, subst, arith, length}, lemmas.{List.{nil_from_length}, Option.{MatchOption-at_none, MatchOption-at_some}}}
-use Rattle.amt_ports.specs.Causes.{HasCause}
-use Rattle.replication_workers.{specs.{Slots.{from_the_end}, Starting.{HaveStarted}}, proofs.{Filling.{all_started, none_started, one_refused, one_started, starting_first, starting_more}, Ready.{from_the_end-last, popped}}}
+use Rattle.std.proofs.{Common.{◌≡◌, ◌∙◌, ℕ, suc, vec_len, [], refl, sym, ap, subst, arith, length}, lemmas.List.{nil_from_length, Elements.{All-nil}}}
+use Rattle.replication_workers.{specs.{KeptSlots.{AreStarted}, Slots.{from_the_end}, Starting.{HaveStarted}}, proofs.{Along.{along_all, along_first, along_more, with_next}, Filling.{filled_length, none_started, one_started, started_more}, Ready.{from_the_end-last}}}
 use Rattle.replication_workers.proofs.dispatcher.filling.start_each.Goals as goal
 
 pub loop-one-init : goal.loop-one-init
 loop-one-init g c =
-    let none = c.args.kept.now.ok.0 ∙ ap length c.requires.none in (
-      starting_first g.P.Spawner.task_of (from_the_end c.args.ready.now.items) c.args.kept.now.items c.requires.none,
-      subst (λ (count : ℕ). HaveStarted count (g.P.Spawner.starts c.args.spawner.now) (g.P.Spawner.starts c.args.spawner.now)) (sym none) (none_started (g.P.Spawner.starts c.args.spawner.now)),
-      refl,
-      omega (arith, none),
-      refl,
-    )
+    let none = c.args.kept.now.ok.0 ∙ ap length c.requires.none in
+    let starts = g.P.Spawner.starts c.args.spawner.now in record {
+      along = along_first (AreStarted g.P.Spawner.task_of) _ _ (subst (AreStarted g.P.Spawner.task_of []) (sym c.requires.none) (record { states = refl; kind = All-nil _; run = All-nil _ }));
+      counted = subst (λ (count : ℕ). HaveStarted count starts starts) (sym none) (none_started starts);
+      quiet = refl;
+      number = omega (arith, none);
+      room = refl;
+    }
 
 pub push_reserved-requires : goal.push_reserved-requires
 push_reserved-requires g c =
-    let at = MatchOption-at_some _ _ _ c.in-Some.is c.pop.ensures.cases in
-    omega (arith, at, c.loop-one.invariant.3, c.loop-one.invariant.4, c.requires.room, c.args.ready.now.ok.0)
+    let so_far = c.loop-one.invariant in omega (arith, c.in-Some.ensures.cases, so_far.number, so_far.room, c.requires.room, c.args.ready.now.ok.0)
 
 pub loop-one-smaller : goal.loop-one-smaller
-loop-one-smaller g c =
-    let at = MatchOption-at_some _ _ _ c.in-Some.is c.pop.ensures.cases in
-    omega (arith, at)
+loop-one-smaller g c = omega (arith, c.in-Some.ensures.cases)
 
 pub loop-one-preserved : goal.loop-one-preserved
 loop-one-preserved g c =
-    let at = MatchOption-at_some _ _ _ c.in-Some.is c.pop.ensures.cases in
+    let so_far = c.loop-one.invariant in
     let put = c.push_reserved.ensures in
-    let started = c.in-Ok.ensures in
+    let started = c.in-Ok.ensures.started in
     let longer : suc (vec_len c.loop-one.kept) ≡ vec_len c.push_reserved.new.self = omega (arith, put.len) in
-    let left = ap (λ ready. from_the_end ready) (popped _ _ _ _ c.pop.ensures.items c.in-Some.is) ∙ from_the_end-last c.pop.new.self.items c.in-Some.one in (
-      starting_more _ _ _ _ _ _ _ _ c.loop-one.invariant.0 left put.items
-          (λ i. record { first = (ap (λ worker. worker.replicator) started.started.1) i; jobs = started.started.2 i }) refl started.started.0,
-      subst (λ (count : ℕ). HaveStarted count (g.P.Spawner.starts c.args.spawner.now) (g.P.Spawner.starts c.start_slot.new.spawner)) longer
-          (one_started _ _ _ _ c.loop-one.invariant.1 started.counted),
-      (subst (λ result. HasCause (g.P.Spawner.faults c.loop-one.spawner) (g.P.Spawner.faults c.start_slot.new.spawner) result) c.in-Ok.is c.start_slot.ensures.cause).quiet ∙ c.loop-one.invariant.2,
-      omega (arith, at, put.len, c.loop-one.invariant.3),
-      put.capacity ∙ c.loop-one.invariant.4,
-    )
+    let left = ap (λ ready. from_the_end ready) c.in-Some.ensures.items ∙ from_the_end-last c.pop.new.self.items c.in-Some.one in record {
+      along = along_more _ _ _ _ _ _ _ so_far.along left
+          (started_more _ _ _ _ _ _ so_far.along.so put.items (λ i. record { first = (ap (λ worker. worker.replicator) started.1) i; jobs = started.2 i }) refl started.0);
+      counted = subst (λ (count : ℕ). HaveStarted count (g.P.Spawner.starts c.args.spawner.now) (g.P.Spawner.starts c.start_slot.new.spawner)) longer (one_started _ _ _ _ so_far.counted c.in-Ok.ensures.counted);
+      quiet = c.in-Ok.ensures.cause.quiet ∙ so_far.quiet;
+      number = omega (arith, c.in-Some.ensures.cases, put.len, so_far.number);
+      room = put.capacity ∙ so_far.room;
+    }
 
 pub returns-in-Err-clause-refused : goal.returns-in-Err-clause-refused
 returns-in-Err-clause-refused g c =
-    let left = ap (λ ready. from_the_end ready) (popped _ _ _ _ c.pop.ensures.items c.in-Some.is) ∙ from_the_end-last c.pop.new.self.items c.in-Some.one in
-    let starts = g.P.Spawner.starts in
-    let counted = subst (λ (count : ℕ). HaveStarted count (starts c.args.spawner.now) (starts c.loop-one.spawner)) c.loop-one.kept.ok.0 c.loop-one.invariant.1 in
-    one_refused _ _ _ _ _ _ _ _ _ c.loop-one.invariant.0 counted c.in-Err.ensures.kept left
+    let so_far = c.loop-one.invariant in
+    let left = ap (λ ready. from_the_end ready) c.in-Some.ensures.items ∙ from_the_end-last c.pop.new.self.items c.in-Some.one in
+    let started = so_far.along.so in record {
+      earlier = so_far.along.done;
+      refused = _;
+      all_are = with_next _ _ _ _ _ _ so_far.along left;
+      started = started;
+      counted = subst (HaveStarted _ _) (sym c.in-Err.ensures.kept)
+          (subst (λ (count : ℕ). HaveStarted count (g.P.Spawner.starts c.args.spawner.now) (g.P.Spawner.starts c.loop-one.spawner)) (c.loop-one.kept.ok.0 ∙ filled_length _ _ started.states) so_far.counted);
+    }
 
 pub returns-clause-started : goal.returns-clause-started
 returns-clause-started g c =
-    let at = MatchOption-at_none _ _ c.in_default.is c.pop.ensures.cases in
-    all_started _ _ _ _ c.loop-one.invariant.0 (ap (λ ready. from_the_end ready) (nil_from_length c.loop-one.ready.items (omega (arith, at.0, c.loop-one.ready.ok.0))))
+    along_all _ _ _ _ c.loop-one.invariant.along (ap (λ ready. from_the_end ready) (nil_from_length c.loop-one.ready.items (omega (arith, c.in_default.ensures.cases.0, c.loop-one.ready.ok.0))))

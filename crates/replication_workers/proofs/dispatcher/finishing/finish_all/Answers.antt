@@ -1,72 +1,49 @@
-use Rattle.std.proofs.{Common.{◌∙◌, refl, sym, subst, arith}, lemmas.{List.{nil_from_length}, Option.{MatchOption-at_none, MatchOption-at_some}}}
-use Rattle.replication_workers.proofs.Ending.{Ending, ending_first, ending_more, few_with, have_left, jobs_are, next_runs, room_for_next, same_outs, same_views}
+use Rattle.std.{proofs.{Common.{◌∙◌, length, refl, sym, subst, ap, arith}, lemmas.List.{nil_from_length, Elements.{All-head, All-rest}}}, specs.List.{All}}
+use Rattle.replication_workers.{specs.{Gathering.{HasRoom, HaveEnded}, KeptSlots.{IsRunBy}}, proofs.{Along.{Along, along_all, along_first, along_more, with_next}, Ending.{ended_more, ended_none, few_with, less_room}}}
 use Rattle.replication_workers.proofs.dispatcher.finishing.finish_all.Goals as goal
 
 pub loop-one-init : goal.loop-one-init
-loop-one-init g c = (
-  subst (λ rest. Ending g.P.Spawner.task_of c.args.kept.items rest c.args.gathered c.args.gathered) (sym c.into_iter-rest.ensures.rest)
-      (ending_first g.P.Spawner.task_of c.args.kept.items c.args.gathered c.requires.room c.requires.run),
-  refl,
-  refl,
-)
+loop-one-init g c =
+    let is = sym c.into_iter-rest.ensures.rest in record {
+      along = subst (λ rest. Along HaveEnded c.args.kept.items rest c.args.gathered) is (along_first HaveEnded c.args.kept.items c.args.gathered (ended_none c.args.gathered c.requires.fresh));
+      room = subst (λ rest. HasRoom (length rest) c.args.gathered) is c.requires.room;
+      run = subst (All (IsRunBy g.P.Spawner.task_of)) is c.requires.run;
+      starts = refl;
+      faults = refl;
+    }
 
 pub finish_kept-requires : goal.finish_kept-requires
-finish_kept-requires g c =
-    let at = MatchOption-at_some _ _ _ c.in-Some.is c.next.ensures.cases in
-    next_runs _ _ _ _ _ _ _ c.loop-one.invariant.0 at.0
+finish_kept-requires g c = All-head (IsRunBy g.P.Spawner.task_of) c.in-Some.one _ (subst (All (IsRunBy g.P.Spawner.task_of)) c.in-Some.ensures.cases.0 c.loop-one.invariant.run)
 
-pub add-requires-clause-room : goal.add-requires-clause-room
-add-requires-clause-room g c =
-    let at = MatchOption-at_some _ _ _ c.in-Some.is c.next.ensures.cases in
-    room_for_next _ _ _ _ _ _ _ c.loop-one.invariant.0 at.0
-
-pub add-requires-clause-jobs : goal.add-requires-clause-jobs
-add-requires-clause-jobs g c =
-    let at = MatchOption-at_some _ _ _ c.in-Some.is c.next.ensures.cases in
-    few_with _ _ _ _ _ _ _ _ c.loop-one.invariant.0 at.0 c.finish_kept.ensures.left c.requires.fresh c.requires.few
-
-pub add-requires-clause-few : goal.add-requires-clause-few
-add-requires-clause-few g c = c.finish_kept.ensures.left.few
+pub add-requires : goal.add-requires
+add-requires g c =
+    let so_far = c.loop-one.invariant in
+    let next = c.in-Some.ensures.cases.0 in
+    let left = c.finish_kept.ensures.left in record {
+      room = less_room 1 _ c.loop-one.gathered (omega (arith, ap length next)) so_far.room;
+      jobs = few_with _ _ _ _ _ _ so_far.along.so left (with_next _ _ _ _ _ _ so_far.along next) c.requires.few;
+      few = left.few;
+    }
 
 pub loop-one-smaller : goal.loop-one-smaller
-loop-one-smaller g c =
-    let at = MatchOption-at_some _ _ _ c.in-Some.is c.next.ensures.cases in
-    omega (arith, at.1)
+loop-one-smaller g c = omega (arith, c.in-Some.ensures.cases.1)
 
 pub loop-one-preserved : goal.loop-one-preserved
 loop-one-preserved g c =
-    let at = MatchOption-at_some _ _ _ c.in-Some.is c.next.ensures.cases in
-    let ended = c.finish_kept.ensures in (
-      ending_more _ _ _ _ _ _ _ c.in-Some.one c.finish_kept.result c.loop-one.invariant.0 at.0 (record { is_left = ended.left; same_out = ended.out; same_view = ended.view }) c.add.ensures.added c.add.ensures.room,
-      ended.starts ∙ c.loop-one.invariant.1,
-      ended.faults ∙ c.loop-one.invariant.2,
-    )
+    let so_far = c.loop-one.invariant in
+    let next = c.in-Some.ensures.cases.0 in
+    let ended = c.finish_kept.ensures in record {
+      along = along_more _ _ _ _ _ _ c.in-Some.one so_far.along next (ended_more _ _ _ c.in-Some.one c.finish_kept.result so_far.along.so ended.left ended.out ended.view c.add.ensures.added);
+      room = c.add.ensures.room _ (subst (λ rest. HasRoom (length rest) c.loop-one.gathered) next so_far.room);
+      run = All-rest (IsRunBy g.P.Spawner.task_of) c.in-Some.one _ _ next so_far.run;
+      starts = ended.starts ∙ so_far.starts;
+      faults = ended.faults ∙ so_far.faults;
+    }
 
 pub destroy_empty-requires : goal.destroy_empty-requires
-destroy_empty-requires g c = (MatchOption-at_none _ _ c.in_default.is c.next.ensures.cases).1
+destroy_empty-requires g c = c.in_default.ensures.cases.1
 
-pub returns-clause-left : goal.returns-clause-left
-returns-clause-left g c =
-    let at = MatchOption-at_none _ _ c.in_default.is c.next.ensures.cases in
-    have_left _ _ _ _ _ c.loop-one.invariant.0 (nil_from_length _ (omega (arith, at.0, c.loop-one.rest.rest.ok.0))) c.requires.fresh
-
-pub returns-clause-jobs : goal.returns-clause-jobs
-returns-clause-jobs g c =
-    let at = MatchOption-at_none _ _ c.in_default.is c.next.ensures.cases in
-    jobs_are _ _ _ _ _ c.loop-one.invariant.0 (nil_from_length _ (omega (arith, at.0, c.loop-one.rest.rest.ok.0))) c.requires.fresh
-
-pub returns-clause-outs : goal.returns-clause-outs
-returns-clause-outs g c =
-    let at = MatchOption-at_none _ _ c.in_default.is c.next.ensures.cases in
-    same_outs _ _ _ _ _ c.loop-one.invariant.0 (nil_from_length _ (omega (arith, at.0, c.loop-one.rest.rest.ok.0))) c.requires.fresh
-
-pub returns-clause-views : goal.returns-clause-views
-returns-clause-views g c =
-    let at = MatchOption-at_none _ _ c.in_default.is c.next.ensures.cases in
-    same_views _ _ _ _ _ c.loop-one.invariant.0 (nil_from_length _ (omega (arith, at.0, c.loop-one.rest.rest.ok.0))) c.requires.fresh
-
-pub returns-clause-starts : goal.returns-clause-starts
-returns-clause-starts g c = c.loop-one.invariant.1
-
-pub returns-clause-faults : goal.returns-clause-faults
-returns-clause-faults g c = c.loop-one.invariant.2
+pub returns : goal.returns
+returns g c =
+    let so_far = c.loop-one.invariant in
+    record { ended = along_all _ _ _ _ so_far.along (nil_from_length _ (omega (arith, c.in_default.ensures.cases.0, c.loop-one.rest.rest.ok.0))); starts = so_far.starts; faults = so_far.faults }

@@ -7,7 +7,7 @@ pub put-requires-clause-may : goal.put-requires-clause-may
 put-requires-clause-may g c = may_put_job (view c.args.pass.now) c.args.job c.requires.putting c.requires.few c.requires.publisher
 
 pub returns-clause-putting : goal.returns-clause-putting
-returns-clause-putting g c = still_putting (view c.args.pass.now) (view c.put.new.pass) c.args.job c.requires.putting c.requires.few c.put.ensures.put
+returns-clause-putting g c = still_putting (view c.args.pass.now) (view c.put.new.pass) c.args.job c.requires.putting c.put.ensures.put
 
 pub returns-clause-put : goal.returns-clause-put
 returns-clause-put g c = job_was_put (view c.args.pass.now) (view c.put.new.pass) c.args.job c.put.ensures.put

@@ -1,28 +1,22 @@
-use Rattle.std.proofs.Common.{List, ap, subst, ◌∙◌}
+use Rattle.std.proofs.Common.{ℕ, List, map, subst, ◌∙◌}
+use Rattle.amt_ports.specs.Tried.{HasTried}
 use Rattle.endpoint_membership.specs.declared.change.Change.{Change}
-use Rattle.published_table.specs.{Lists.{BeginsWith, BeginsWithEach}, Views.{seen, terms_of}}
-use Rattle.replication_workers.proofs.Copies.{tried_since}
+use Rattle.published_table.specs.{Lists.{BeginsWith, BeginsWithEach}, Terms.{settings_by}, Views.{seen}, declared.terms.Terms.{Terms}}
+use Rattle.replication_workers.specs.Replication.{copies_by, to_peer}
 use Rattle.replication_workers.proofs.replicator.Replicator.replicate.Goals as goal
 
-pub returns-clause-view : goal.returns-clause-view
-returns-clause-view g c = (c.copy.ensures.view.by ∙ c.learn.ensures.terms, c.copy.ensures.view.of ∙ c.learn.ensures.publisher, c.copy.ensures.view.same_told ∙ c.learn.ensures.told)
-
-pub returns-clause-further : goal.returns-clause-further
-returns-clause-further g c = subst (λ (log : List Change). BeginsWith (seen c.copy.new.self.view) log) c.learn.ensures.seen c.copy.ensures.further
-
-pub returns-clause-told : goal.returns-clause-told
-returns-clause-told g c = subst (λ (logs : List (List Change)). BeginsWithEach (seen c.copy.new.self.view) logs) c.learn.ensures.told c.copy.ensures.told
-
-pub returns-clause-prefix : goal.returns-clause-prefix
-returns-clause-prefix g c = c.copy.ensures.prefix
-
-pub returns-clause-sends : goal.returns-clause-sends
-returns-clause-sends g c =
-    let before = c.args.self.now in
+pub returns : goal.returns
+returns g c =
     let after = c.copy.new.self in
-    let sent = c.copy.result in
-    tried_since _ _ _ _ _ _ (terms_of before.view) (terms_of c.learn.new.self.view) before.packet_limit c.learn.new.self.packet_limit (seen after.view) c.args.job.at c.args.job.packet c.as_slice.result.now sent.sent sent.unsent
-    (ap g.O.OutLink.tried c.learn.ensures.out) (ap g.O.OutLink.faults c.learn.ensures.out) c.learn.ensures.terms c.learn.ensures.limit c.as_slice.ensures c.copy.ensures.sends
-
-pub returns-clause-limit : goal.returns-clause-limit
-returns-clause-limit g c = c.copy.ensures.limit ∙ c.learn.ensures.limit
+    let copied = c.copy.ensures in
+    let learnt = c.learn.ensures in record {
+      view = (copied.view.by ∙ learnt.terms, copied.view.of ∙ learnt.publisher, copied.view.same_told ∙ learnt.told);
+      further = subst (λ (log : List Change). BeginsWith (seen after.view) log) learnt.seen copied.further;
+      told = subst (λ (logs : List (List Change)). BeginsWithEach (seen after.view) logs) learnt.told copied.told;
+      prefix = copied.prefix;
+      sends = subst (λ (of : g.row.O.Denot × Terms × ℕ × List ℕ). HasTried (g.O.OutLink.tried of.0) (g.O.OutLink.tried after.out) (g.O.OutLink.faults of.0) (g.O.OutLink.faults after.out)
+          (map to_peer (copies_by (settings_by of.1) of.2 (seen after.view) c.args.job.at of.3)) c.copy.result.sent c.copy.result.unsent)
+          (λ i. (learnt.out i, learnt.terms i, learnt.limit i, c.as_slice.ensures i)) copied.sends;
+      few = copied.few;
+      limit = copied.limit ∙ learnt.limit;
+    }

@@ -5,4 +5,4 @@ use Rattle.replication_workers.proofs.worker.WorkerTask.run.Given as goal
 
 abbrev pub invariant-loop : goal.invariant-loop
 invariant-loop g l =
-    IsSeatAt (receives_on l.fn.self.inbox) l.pass × Going l.fn.self l.replicator (view l.pass) l.jobs l.sent l.unsent
+    IsSeatAt (receives_on l.fn.self.inbox) l.pass × Going l.fn.self l.replicator (view l.pass) l.counts

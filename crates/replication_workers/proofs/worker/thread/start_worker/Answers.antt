@@ -1,5 +1,5 @@
 use denote.{Exit.{no}, Param.{param, Send.{IsSend, arg_send, param_send, sendable}}}
-use Rattle.replication_workers.proofs.{Crossing.{Worker-send}, Copying.{Replicator-send}}
+use Rattle.replication_workers.proofs.Crossing.{Replicator-send, Worker-send}
 use Rattle.replication_workers.proofs.worker.thread.start_worker.Goals as goal
 
 pub start_promised-requires-send-T : goal.start_promised-requires-send-T

@@ -1,37 +1,28 @@
-use Rattle.std.proofs.Common.{◌≡◌, ◌<◌, ◌^◌, ◌∙◌, ap, length, subst, sym, true≢false}
+use Rattle.std.proofs.Common.{◌≡◌, ◌<◌, ◌^◌, ◌∙◌, ap, length, refl, subst, sym, true≢false}
 use Rattle.published_table.specs.Views.{note_publisher, publisher_of}
-use Rattle.replication_workers.{specs.{KeptSlots.{is_threaded_slot, state_of}, Replicators.{view_of}}, proofs.Giving.{copied_inline, inline_next, threaded_next, threaded_runs}}
+use Rattle.replication_workers.specs.{KeptSlots.{IsGiven, state_of}, Replicators.{view_of}, Slots.{replicator_of}, declared.dispatcher.kept.Kept.TheVariants.{Threaded, Inline}}
 use Rattle.replication_workers.proofs.dispatcher.kept.Kept.give.Goals as goal
 
-pub put-requires-clause-few : goal.put-requires-clause-few
-put-requires-clause-few g c = subst (λ kept. length (state_of kept).jobs < 2 ^ 46) c.in-Threaded.is c.requires.few
+pub put-requires : goal.put-requires
+put-requires g c = record {
+  few = subst (λ kept. length (state_of kept).jobs < 2 ^ 46) c.in-Threaded.is c.requires.few;
+  publisher = subst (λ kept. note_publisher c.args.job.note ≡ publisher_of (view_of (state_of kept).first)) c.in-Threaded.is c.requires.publisher;
+}
 
-pub put-requires-clause-publisher : goal.put-requires-clause-publisher
-put-requires-clause-publisher g c = subst (λ kept. note_publisher c.args.job.note ≡ publisher_of (view_of (state_of kept).first)) c.in-Threaded.is c.requires.publisher
+pub copy-requires : goal.copy-requires
+copy-requires g c = record {
+  few = subst (λ kept. length (state_of kept).jobs < 2 ^ 46) c.in-Inline.is c.requires.few;
+  publisher = subst (λ kept. note_publisher c.args.job.note ≡ publisher_of (view_of (state_of kept).first)) c.in-Inline.is c.requires.publisher;
+}
 
-pub copy-requires-clause-few : goal.copy-requires-clause-few
-copy-requires-clause-few g c = subst (λ kept. length (state_of kept).jobs < 2 ^ 46) c.in-Inline.is c.requires.few
+pub returns-in-Threaded : goal.returns-in-Threaded
+returns-in-Threaded g c =
+    let put = c.put.ensures in
+    subst (λ kept. IsGiven c.args.job kept (Threaded c.put.new.self)) (sym c.in-Threaded.is)
+    (record { state = λ i. record { first = replicator_of (put.worker i); jobs = put.put i }; kind = refl; run = λ task_of run. ap task_of put.started ∙ run ∙ sym put.worker; copied = λ inline. absurd (true≢false inline) })
 
-pub copy-requires-clause-publisher : goal.copy-requires-clause-publisher
-copy-requires-clause-publisher g c = subst (λ kept. note_publisher c.args.job.note ≡ publisher_of (view_of (state_of kept).first)) c.in-Inline.is c.requires.publisher
-
-pub returns-in-Threaded-clause-state : goal.returns-in-Threaded-clause-state
-returns-in-Threaded-clause-state g c = threaded_next _ c.in-Threaded.slot c.put.new.self c.args.job c.in-Threaded.is c.put.ensures.put c.put.ensures.worker
-
-pub returns-in-Threaded-clause-kind : goal.returns-in-Threaded-clause-kind
-returns-in-Threaded-clause-kind g c = ap is_threaded_slot (sym c.in-Threaded.is)
-
-pub returns-in-Threaded-clause-run : goal.returns-in-Threaded-clause-run
-returns-in-Threaded-clause-run g c = threaded_runs _ c.in-Threaded.slot c.put.new.self c.in-Threaded.is c.put.ensures.started c.put.ensures.worker
-
-pub returns-in-Threaded-clause-copied : goal.returns-in-Threaded-clause-copied
-returns-in-Threaded-clause-copied g c = λ inline. absurd (true≢false (ap is_threaded_slot (sym c.in-Threaded.is) ∙ inline))
-
-pub returns-in-Inline-clause-state : goal.returns-in-Inline-clause-state
-returns-in-Inline-clause-state g c = inline_next _ c.in-Inline.slot c.copy.new.self c.args.job c.in-Inline.is c.copy.ensures.jobs c.copy.ensures.first
-
-pub returns-in-Inline-clause-kind : goal.returns-in-Inline-clause-kind
-returns-in-Inline-clause-kind g c = ap is_threaded_slot (sym c.in-Inline.is)
-
-pub returns-in-Inline-clause-copied : goal.returns-in-Inline-clause-copied
-returns-in-Inline-clause-copied g c = λ inline. copied_inline _ c.in-Inline.slot c.copy.new.self c.args.job c.in-Inline.is c.copy.ensures.copied
+pub returns-in-Inline : goal.returns-in-Inline
+returns-in-Inline g c =
+    let copied = c.copy.ensures in
+    subst (λ kept. IsGiven c.args.job kept (Inline c.copy.new.self)) (sym c.in-Inline.is)
+    (record { state = λ i. record { first = copied.first i; jobs = copied.jobs i }; kind = refl; run = λ task_of run. run; copied = λ inline. copied.copied })
