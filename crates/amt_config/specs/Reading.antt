@@ -1,9 +1,8 @@
 -- What the readers of files answer. No public contract says these words.
 use Rattle.std.specs.Prelude.{◌≡◌, ◌⊎◌, List, codes}
 use Rattle.socket_merge.specs.History.{AcceptedCall}
-use Rattle.relay_machine.specs.Settings.{AreLawfulSettings}
 use Rattle.toml.specs.Data.{Members}
-use Rattle.amt_config.specs.{declared.{config.{Join.{Join}, RelayConfig.{RelayConfig}}, fault.ConfigFault.{ConfigFault}}, Join.{MayOpen}, Key.{IsRight, Key}, Relay.{HasValues, settings_of}, Table.{FirstOf, IsFaultOf}}
+use Rattle.amt_config.specs.{declared.{config.Join.{Join}, fault.ConfigFault.{ConfigFault}}, Join.{MayOpen}, Key.{IsRight, Key}, Table.{FirstOf, IsFaultOf}}
 use Rattle.amt_config.specs.declared.fault.ConfigFault.TheVariants as faults
 
 -- the fault of a key, or out of memory
@@ -19,8 +18,3 @@ MayFailFirst keys table Else fault =
 abbrev pub IsRefusedAfter : List AcceptedCall → Join → ConfigFault → Type 0
 IsRefusedAfter history join fault =
     ((MayOpen history join → ⊥) × (fault ≡ faults.Range (codes "join"))) ⊎ (fault ≡ faults.Memory)
-
--- the values are those of the keys, and together a relay may have them
-pub record IsMadeOf (table : Members) (config : RelayConfig) : Type 0 where
-  pub values : HasValues table config
-  pub lawful : AreLawfulSettings (settings_of config)

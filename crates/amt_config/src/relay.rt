@@ -5,7 +5,7 @@ ghost use Rattle.amt_values.specs.Conditions.{First};
 ghost use Rattle.relay_machine.specs.{declared.number_key.NumberKey.{NumberKey as AnyNumber, TheVariants.{Endpoints, QuerySeconds, ResponseTenths}}, Settings.{AreLawfulSettings, IsInKeyRange, number_at as number_in}};
 ghost use Rattle.amt_script.specs.Row.{number_word};
 ghost use Rattle.toml.specs.View.{table_view};
-ghost use Rattle.amt_config.specs.{declared.{config.RelayConfig.{RelayConfig as Config}, fault.ConfigFault.{ConfigFault as Fault}}, Key.{HasWholeNumber, IsRight}, Reading.{IsMadeOf, MayFail, MayFailFirst}, Relay.{FailsTogether, HasValues, IsFaultTogether, IsRelayFault, IsRelayFile, number_key, range_of, relay_keys, settings_of, together_order}, Table.{IsValueFault}};
+ghost use Rattle.amt_config.specs.{declared.{config.RelayConfig.{RelayConfig as Config}, fault.ConfigFault.{ConfigFault as Fault}}, Key.{HasWholeNumber, IsRight}, Reading.{MayFail, MayFailFirst}, Relay.{FailsTogether, HasValues, IsFaultTogether, IsRelayFault, IsRelayFile, RelayConfigOf, number_key, range_of, relay_keys, settings_of, together_order}, Table.{AreKnown, IsValueFault}, Words.{words_in}};
 
 use crate::config::RelayConfig;
 use crate::fault::{ConfigFault, KeyFault, told};
@@ -95,7 +95,8 @@ fn fault_together(config: &RelayConfig) -> Option<NumberKey>
 }
 
 fn read_config(alloc: Global, table: &Table) -> Result<RelayConfig, ConfigFault>
-    ensures found { IfOk result (IsMadeOf (table_view table.now)) }
+    requires { AreKnown (words_in TableKind.Relay) (table_view table.now) }
+    ensures found { IfOk result (RelayConfigOf (table_view table.now)) }
     ensures fault { IfErr result (λ fault. IsValueFault relay_keys IsFaultTogether (table_view table.now) fault
         ⊎ (fault ≡ ConfigFault.Memory)) }
 {
