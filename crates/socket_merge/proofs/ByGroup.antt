@@ -1,11 +1,10 @@
 -- Which groups have sockets, and were opened; sums and texts by group.
-use Rattle.std.proofs.Common.{◌≡◌, ℕ, ◌+◌, ◌*◌, ◌≤◌, Bool, true, false, not, ◌&&◌, ◌||◌, cond, List, [], ◌∷◌, ◌++◌, filter, length, map, Option, Some, None, if◌then◌else◌, refl, sym, ap, subst, ◌∙◌, arith}
-use Rattle.std.{proofs.lemmas.{Cmp.{eq_by_cmp_equiv}, List.{Elements.{All-cons, All-filter, All-head, All-nil, All-push, All-tail, All-weaker}, Sums.{sum_by-cons}}, Map.Keys.{IsDistinct-from_sorted, IsDistinct-head, IsDistinct-tail}}, specs.List.{All, AllByRecursion, IsDistinct, flat_map, list_any, sum_by}}
+use Rattle.std.proofs.Common.{◌≡◌, ℕ, ◌+◌, Bool, true, false, not, ◌&&◌, ◌||◌, cond, List, [], ◌∷◌, ◌++◌, filter, length, map, Option, Some, None, if◌then◌else◌, refl, sym, ap, subst, ◌∙◌, arith}
+use Rattle.std.{proofs.lemmas.{Cmp.{eq_by_cmp_equiv}, List.{Elements.{All-filter, All-head, All-nil, All-push, All-tail, All-weaker}, Sums.{sum_by-cons}}, Map.Keys.{IsDistinct-head, IsDistinct-tail}}, specs.List.{All, AllByRecursion, IsDistinct, flat_map, list_any, sum_by}}
 use Rattle.std.specs.Ordering.{eq_by_cmp}
-use Rattle.amt_values.{specs.{declared.address.Ip.{Ip}, Order.{ip_order}, Ascending.{IsAscending, ascending, has}}, proofs.{Orders.{ip_order-exact, ip_order-total}, AscendingLaws.{IsAscending-filter, has-append, has-filter, same_ascending}}}
-use Rattle.group_records.specs.{Written.{is_of_family}, declared.family.Family.{Family}}
-use Rattle.socket_merge.specs.{FullReport.{is_empty}, History.{AcceptedCall, Change, Close, LeaveAll, Open, Socket, SocketCall, group_opened, groups_opened, open_sockets, sockets_after}, Interface.{is_wanted, left_at, on_group, same_group}, Kept.{has_socket, listed, listed_in, listed_on}}
-use Rattle.source_filter.specs.{Filter.{FilterValue, wants_any}, Merging.{merged}}
+use Rattle.amt_values.{specs.{declared.address.Ip.{Ip}, Order.{ip_order}, Ascending.{IsAscending, has}}, proofs.{Orders.{ip_order-exact, ip_order-total}, AscendingLaws.{IsAscending-filter, has-append, has-filter, same_ascending}}}
+use Rattle.socket_merge.specs.{FullReport.{is_empty}, History.{AcceptedCall, Change, Close, LeaveAll, Open, Socket, SocketCall, group_opened, groups_opened, open_sockets, sockets_after}, Interface.{is_wanted, left_at, on_group, same_group}, Kept.{has_socket, listed, listed_on}}
+use Rattle.source_filter.specs.{Filter.{wants_any}, Merging.{merged}}
 use Rattle.socket_merge.{specs.Interface.{filters_on}, proofs.{Amounts.{All-refiltered, has_name, listing}, Wanted.{same_group-exact, same_group-itself, some_item, wants_any-merged}}}
 
 -- the group of a socket

@@ -1,10 +1,9 @@
 -- What each call of the sockets leaves, by what its private calls answer.
-use Rattle.std.{proofs.{Common.{◌≡◌, ℕ, ◌+◌, ◌-◌, ◌≤◌, max, Bool, true, false, ◌||◌, cond, is_some, List, [], ◌∷◌, ◌++◌, length, Option, Some, None, IsSome, refl, sym, ap, subst, ◌∙◌, arith}, lemmas.{Bool.{leb-true}, List.Elements.{All-nil}}}, specs.{List.{All, count_by}, Map.{keys_of}, Option.{option_map}}}
-use Rattle.amt_values.specs.{declared.address.Ip.{Ip}, Group.{is_forwardable}, Order.{ip_order}, Ascending.{IsAscending}, Conditions.{first_holding}}
+use Rattle.std.{proofs.{Common.{◌≡◌, ℕ, ◌+◌, ◌≤◌, max, Bool, true, false, ◌||◌, cond, is_some, List, [], ◌∷◌, length, Option, Some, None, IsSome, refl, sym, ap, subst, ◌∙◌, arith}, lemmas.{Bool.{leb-true}, List.Elements.{All-nil}}}, specs.{List.{All, count_by}, Map.{keys_of}, Option.{option_map}}}
+use Rattle.amt_values.specs.{declared.address.Ip.{Ip}, Order.{ip_order}, Ascending.{IsAscending}}
 use Rattle.source_filter.specs.Filter.{FilterValue}
-use Rattle.group_records.specs.declared.family.Family.{Family}
-use Rattle.socket_merge.specs.{FullReport.{longest_farewell}, History.{AcceptedCall, Change, Close, LeaveAll, Open, Socket, SocketCall, latest, open_sockets, socket_named, sockets_after, with_call}, Interface.{filters_on, is_wanted, left_at, on_group, same_group}, Kept.{AreMade, HasSlot, IsLawful, IsSound, farewells_in, has_socket, kept_at, left_after, left_fresh, listed_in, listed_on, places_besides, raw_octets, slot_at, slot_fresh, slot_left, slot_of, slots_of, some_wants}, Refusal.{IsWithinLimits, family_of, has_place, is_open, may_be_due, raw_report_length, raw_sources, refusal_of}, Sockets.{Farewell, HasNoOldFarewell, IsKept, KeepsFarewells, SocketsHold, SocketsValue, left_in}, declared.fault.SocketFault.{SocketFault}}
-use Rattle.socket_merge.proofs.{Amounts.{HasName, HasName-of, has_name, kept-changed, kept-closed, some_is}, HoldsAfter.{AreFollowed, AreFollowed-one, Stands, Stands-fresh, Stands-next, farewell_stays, may_be_due-kept, read_at}, Lawful.{AreOthersKept, IsLawful-next, IsLawful-none, MayCall, kept-opened}, RawOctets.{IsFew-of, raw-is, raw_groups, raw_sources-listed, same-raw}, Refused.{IsCounted, IsCounted-of, IsKeptBy, limit_by, places-few, refusal-all, refusal-changed, refusal-closed, refusal-opened, some_on}, Slots.{AreSlots, AreSlots-back, AreSlots-fresh, AreSlots-left, AreSlots-one, back-of, each_farewell, kept-is, left_in-is}, Wanted.{wants_any-merged}}
+use Rattle.socket_merge.specs.{FullReport.{longest_farewell}, History.{AcceptedCall, Change, Close, LeaveAll, Open, Socket, SocketCall, latest, open_sockets, socket_named, sockets_after, with_call}, Interface.{filters_on, is_wanted, left_at, on_group, same_group}, Kept.{AreMade, HasSlot, IsSound, farewells_in, has_socket, kept_at, left_after, left_fresh, listed_in, listed_on, places_besides, raw_octets, slot_at, slot_fresh, slot_left, slot_of, slots_of, some_wants}, Refusal.{IsWithinLimits, family_of, has_place, may_be_due, raw_sources, refusal_of}, Sockets.{Farewell, HasNoOldFarewell, IsKept, KeepsFarewells, SocketsHold, SocketsValue, left_in}, declared.fault.SocketFault.{SocketFault}}
+use Rattle.socket_merge.proofs.{Amounts.{HasName, HasName-of, has_name, kept-changed, kept-closed, some_is}, HoldsAfter.{AreFollowed, AreFollowed-one, Stands, Stands-fresh, Stands-next, farewell_stays, may_be_due-kept, read_at}, Lawful.{AreOthersKept, IsLawful-next, IsLawful-none, MayCall, kept-opened}, RawOctets.{IsFew-of, raw-is, raw_groups, raw_sources-listed, same-raw}, Refused.{IsCounted-of, IsKeptBy, limit_by, places-few, refusal-all, refusal-changed, refusal-closed, refusal-opened, some_on}, Slots.{AreSlots, AreSlots-back, AreSlots-fresh, AreSlots-left, AreSlots-one, back-of, each_farewell, kept-is, left_in-is}, Wanted.{wants_any-merged}}
 
 -- what contracts see of sockets that are kept so
 abbrev pub value_of : ℕ → List Socket → List (Ip × Option ℕ) → SocketsValue

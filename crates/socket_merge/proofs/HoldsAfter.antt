@@ -3,7 +3,7 @@ use Rattle.std.proofs.{Common.{◌≡◌, ℕ, ◌+◌, ◌≤◌, ◌<◌, max,
 use Rattle.std.specs.List.{list_any}
 use Rattle.amt_values.specs.declared.address.Ip.{Ip}
 use Rattle.source_filter.specs.Filter.{wants_any}
-use Rattle.socket_merge.specs.{History.{AcceptedCall, Socket, SocketCall, latest, open_sockets}, Interface.{filters_on, is_wanted, left_at, on_group, same_group}, FullReport.{is_recent, longest_farewell}, Kept.{left_after, left_fresh, some_wants}, Refusal.{may_be_due}, Sockets.{IsKept}}
+use Rattle.socket_merge.specs.{History.{AcceptedCall, Socket, SocketCall, latest, open_sockets}, Interface.{filters_on, is_wanted, left_at, on_group, same_group}, FullReport.{is_recent, longest_farewell}, Kept.{left_after, left_fresh}, Refusal.{may_be_due}, Sockets.{IsKept}}
 use Rattle.socket_merge.proofs.{Amounts.{some_is}, ByGroup.{same_group-turned}, Wanted.{same_group-exact, wants_any-merged}}
 
 -- the next call, as it is read

@@ -1,9 +1,9 @@
 -- Accepted calls keep histories lawful: names apart, sources of their families, and counts within the limits.
-use Rattle.std.{proofs.{Common.{◌≡◌, ℕ, ◌+◌, ◌≤◌, Bool, true, false, not, ◌&&◌, ◌||◌, cond, is_some, List, [], ◌∷◌, ◌++◌, filter, length, map, Option, Some, None, refl, sym, ap, subst, ◌∙◌, append-nil, arith}, lemmas.{Bool.{ltb-false}, List.{Elements.{All-cons, All-filter, All-head, All-nil, All-push, All-tail, filter-append}, Filters.{sum_by-filter_both}, Sums.{sum_by_push}}}}, specs.List.{All, flat_map}}
+use Rattle.std.{proofs.{Common.{◌≡◌, ℕ, ◌≤◌, Bool, true, false, not, cond, is_some, List, [], ◌∷◌, ◌++◌, filter, length, Option, Some, None, refl, sym, ap, subst, ◌∙◌, append-nil, arith}, lemmas.{Bool.{ltb-false}, List.{Elements.{All-cons, All-filter, All-head, All-nil, All-push, All-tail, filter-append}, Filters.{sum_by-filter_both}, Sums.{sum_by_push}}}}, specs.List.{All, flat_map}}
 use Rattle.amt_values.{specs.{declared.address.Ip.{Ip}, Group.{is_forwardable}, Conditions.{first_holding}}, proofs.ConditionLaws.{NoneHolds-of, skipped}}
 use Rattle.source_filter.specs.Filter.{FilterValue}
 use Rattle.group_records.specs.{Written.{is_of_family}, declared.family.Family.{Family}}
-use Rattle.socket_merge.specs.{FullReport.{is_empty}, History.{AcceptedCall, Change, Close, LeaveAll, Open, Socket, SocketCall, groups_opened, latest, open_sockets, socket_named, sockets_after, with_call}, Interface.{on_group, same_group}, Kept.{IsLawful, has_socket, listed, listed_in, listed_on}, Refusal.{FillsNoMore, IsWithinLimits, change_conditions, family_of, is_open, limit_conditions, limits_after, raw_report_length, raw_sources, refusal_of}, Sockets.{AreOfGroup}, declared.fault.SocketFault.{SocketFault, TheVariants.{NoSocket, Taken}}}
+use Rattle.socket_merge.specs.{FullReport.{is_empty}, History.{AcceptedCall, Change, Close, LeaveAll, Open, Socket, SocketCall, groups_opened, latest, open_sockets, socket_named, sockets_after, with_call}, Interface.{on_group, same_group}, Kept.{IsLawful, has_socket, listed, listed_in, listed_on}, Refusal.{FillsNoMore, IsWithinLimits, change_conditions, family_of, is_open, limit_conditions, limits_after, raw_report_length, raw_sources, refusal_of}, Sockets.{AreOfGroup}, declared.fault.SocketFault.{TheVariants.{Taken}}}
 use Rattle.socket_merge.proofs.{Amounts.{AreApart-changed, AreApart-filter, AreApart-opened, HasName, HasName-of, has_name, kept-changed, sum-changed, sum-closed, with_filter}, HoldsAfter.{read_at}, RawOctets.{TakesAway, family_is, raw-sum, raw-taken, raw_sources-listed}, Reports.{IsOfOwnFamily}, Wanted.{same_group-exact}}
 
 -- within the limits

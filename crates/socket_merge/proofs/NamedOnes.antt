@@ -1,5 +1,5 @@
 -- Named sockets by the entries of their map.
-use Rattle.std.proofs.{Common.{◌≡◌, ℕ, ◌+◌, Bool, true, false, cond, not, ◌&&◌, ◌||◌, List, [], ◌∷◌, ◌++◌, length, map, filter, nat_eq, None, Some, if◌then◌else◌, refl, sym, ap, ◌∙◌, arith}, lemmas.{List.Sums.{sum_by-cons}, Map.Keys.{IsDistinct-head, IsDistinct-tail}}}
+use Rattle.std.proofs.{Common.{◌≡◌, ℕ, Bool, true, false, cond, not, ◌&&◌, ◌||◌, List, [], ◌∷◌, ◌++◌, length, map, filter, nat_eq, None, Some, if◌then◌else◌, refl, sym, ap, ◌∙◌, arith}, lemmas.{List.Sums.{sum_by-cons}, Map.Keys.{IsDistinct-head, IsDistinct-tail}}}
 use Rattle.std.specs.{Cmp.{IsEquivalence, nat_eq_equiv, Lexicographic.{pointwise, lists_equiv}}, Global.{Vec}, List.{find, list_any, sum_by, IsDistinct, AllByRecursion}, Map.{lookup, keys_of, values_of, remove_entry, set_value}, Option.{option_map}}
 use Rattle.amt_values.specs.declared.address.Ip.{Ip}
 use Rattle.source_filter.specs.Filter.{FilterValue}

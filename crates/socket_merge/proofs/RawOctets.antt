@@ -1,10 +1,10 @@
 -- The octets of the raw report: by its groups one by one, and by how many they are and what is listed.
-use Rattle.std.proofs.Common.{◌≡◌, ℕ, ◌+◌, ◌*◌, ◌≤◌, Bool, true, false, not, ◌&&◌, ◌||◌, cond, is_some, List, [], ◌∷◌, ◌++◌, filter, length, map, Option, Some, None, refl, sym, ap, subst, ◌∙◌, arith}
-use Rattle.std.{specs.{Cmp.{eq_by_cmp_equiv}, List.{All, sum_by}, Ordering.{eq_by_cmp}}, proofs.lemmas.{Bool.{le-leb, leb-true}, List.{Concat.{length-flat_map}, Folds.{fold-map}, Sums.{sum_by-cons}}, Map.{Keys.{IsDistinct-from_sorted}, Made.{length-le_from_is_member}, Views.{All-from_any}}}}
+use Rattle.std.proofs.Common.{◌≡◌, ℕ, ◌+◌, ◌*◌, ◌≤◌, Bool, true, false, ◌&&◌, ◌||◌, cond, List, [], ◌∷◌, filter, length, map, Option, Some, None, refl, sym, ap, ◌∙◌, arith}
+use Rattle.std.{specs.{Cmp.{eq_by_cmp_equiv}, List.{sum_by}}, proofs.lemmas.{Bool.{le-leb, leb-true}, List.{Concat.{length-flat_map}, Folds.{fold-map}, Sums.{sum_by-cons}}, Map.{Keys.{IsDistinct-from_sorted}, Made.{length-le_from_is_member}, Views.{All-from_any}}}}
 use Rattle.amt_values.{specs.{declared.address.Ip.{Ip, TheVariants.{V4 as Address4, V6 as Address6}}, Order.{ip_order}, Ascending.{IsAscending, ascending, has}}, proofs.{Orders.{ip_order-exact, ip_order-total}, AscendingLaws.{IsAscending-ascending, IsAscending-filter, has-ascending, has-filter, same_ascending}}}
 use Rattle.source_filter.specs.declared.record.Record.{Record}
 use Rattle.group_records.specs.{Family.{width}, Reading.{head_length}, Written.{is_of_family}, declared.family.Family.{Family, TheVariants.{V4, V6}}}
-use Rattle.socket_merge.specs.{FullReport.{groups_of, longest_farewell}, History.{AcceptedCall, Socket, groups_opened, latest, open_sockets}, Interface.{is_wanted, left_at, on_group, same_group}, Kept.{has_socket, listed_in, listed_on, raw_octets}, Refusal.{family_of, has_place, may_be_due, raw_record, raw_report_length, raw_sources}}
+use Rattle.socket_merge.specs.{FullReport.{groups_of, longest_farewell}, History.{AcceptedCall, Socket, groups_opened, latest, open_sockets}, Interface.{is_wanted, left_at, on_group}, Kept.{has_socket, listed_in, listed_on, raw_octets}, Refusal.{family_of, has_place, may_be_due, raw_record, raw_report_length, raw_sources}}
 use Rattle.socket_merge.proofs.{Amounts.{listing, sum_by-filter, sum_by-on_group}, ByGroup.{IsOpened, group_of, has_socket-listed, opened-left, opened-some, sum-listed, wanted-some}}
 
 pub of_own_family : (group : Ip) → is_of_family (family_of group) group ≡ true

@@ -1,9 +1,9 @@
 -- Why calls are refused, by what is kept.
-use Rattle.std.{proofs.{Common.{◌≡◌, ℕ, ◌+◌, ◌-◌, ◌≤◌, max, Bool, true, false, not, ◌&&◌, ◌||◌, cond, is_some, List, [], ◌∷◌, ◌++◌, filter, length, map, Option, Some, None, Ok, Err, refl, sym, ap, subst, ◌∙◌, arith}, Math.Bool.{or-true}, lemmas.{Cmp.{eq_by_cmp_equiv}, List.{length-map, Sums.{sum_by_push}}, Map.{Keys.{IsDistinct-cons, IsDistinct-from_sorted}, Made.{length-from_same_keys}}}}, specs.{List.{AllByRecursion, IsDistinct, sum_by}, Ordering.{eq_by_cmp}}}
-use Rattle.amt_values.{specs.{declared.address.Ip.{Ip}, Order.{ip_order}, Ascending.{IsAscending, has}, Conditions.{Conditions, first_holding}}, proofs.{Orders.{ip_order-exact, ip_order-total}, AscendingLaws.{IsAscending-ascending, IsAscending-filter, has-filter}}}
+use Rattle.std.{proofs.{Common.{◌≡◌, ℕ, ◌+◌, ◌-◌, ◌≤◌, max, Bool, true, false, not, ◌&&◌, ◌||◌, cond, is_some, List, [], ◌∷◌, ◌++◌, filter, length, map, Option, Some, None, Ok, Err, refl, sym, ap, subst, ◌∙◌, arith}, Math.Bool.{or-true}, lemmas.{Cmp.{eq_by_cmp_equiv}, List.{length-map, Sums.{sum_by_push}}, Map.{Keys.{IsDistinct-cons, IsDistinct-from_sorted}, Made.{length-from_same_keys}}}}, specs.{List.{AllByRecursion, sum_by}, Ordering.{eq_by_cmp}}}
+use Rattle.amt_values.{specs.{declared.address.Ip.{Ip}, Order.{ip_order}, Ascending.{IsAscending, has}, Conditions.{first_holding}}, proofs.{Orders.{ip_order-exact, ip_order-total}, AscendingLaws.{IsAscending-ascending, IsAscending-filter, has-filter}}}
 use Rattle.source_filter.specs.Filter.{FilterValue}
 use Rattle.group_records.specs.{Written.{is_of_family}, declared.family.Family.{Family}}
-use Rattle.socket_merge.specs.{FullReport.{is_empty}, History.{AcceptedCall, Change, Close, LeaveAll, Open, Socket, latest, open_sockets, socket_named, sockets_after, with_call}, Interface.{is_wanted, left_at, on_group, same_group}, Kept.{farewells_in, has_place_besides, has_socket, left_after, listed_in, listed_on, places_besides, raw_octets, slots_of}, Refusal.{change_conditions, family_of, has_place, is_open, limit_conditions, limits_after, may_be_due, raw_report_length, raw_sources, refusal_of}, Sockets.{AnswersRefusal, IsKept, left_in}, declared.fault.SocketFault.{SocketFault, TheVariants.{Memory, NoSocket, Taken}}}
+use Rattle.socket_merge.specs.{FullReport.{is_empty}, History.{AcceptedCall, Change, Close, LeaveAll, Open, Socket, latest, open_sockets, socket_named, sockets_after, with_call}, Interface.{is_wanted, left_at, on_group, same_group}, Kept.{farewells_in, has_place_besides, has_socket, left_after, listed_in, listed_on, places_besides, raw_octets, slots_of}, Refusal.{change_conditions, family_of, has_place, is_open, limit_conditions, limits_after, may_be_due, raw_report_length, refusal_of}, Sockets.{AnswersRefusal, IsKept, left_in}, declared.fault.SocketFault.{SocketFault, TheVariants.{Memory, NoSocket, Taken}}}
 use Rattle.socket_merge.proofs.{Amounts.{HasName, kept-changed, sum-changed, sum-closed, with_filter}, ByGroup.{either_none, group_of, same_group-turned}, HoldsAfter.{AreFollowed-one, Stands, Stands-next, may_be_due-kept, read_at}, Lawful.{AreOthersKept, kept-opened}, RawOctets.{IsAscending-raw, due_earlier, few-raw, has-raw, of_own_family, raw-is, raw_groups, raw_sources-listed}, Slots.{farewell_group, groups_in, has-groups}, Wanted.{same_group-exact, same_group-itself}}
 
 -- ---- the groups that have a place, by the slots

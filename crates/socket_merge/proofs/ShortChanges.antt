@@ -3,7 +3,7 @@ use Rattle.std.{proofs.{Common.{◌≡◌, ℕ, ◌+◌, ◌*◌, ◌≤◌, Boo
 use Rattle.amt_values.{specs.{declared.address.Ip.{Ip, TheVariants.{V4 as Address4}}, Order.{ip_order}, Ascending.{ascending, difference, has}}, proofs.{Orders.{ip_order-exact, ip_order-total}, AscendingLaws.{IsAscending-ascending, has-difference}}}
 use Rattle.source_filter.specs.{Changes.{changes_by, changes_on, record_of_some}, Merging.{merged}, declared.mode.Mode.{Mode, TheVariants.{Include, Exclude}}, declared.record.{Record.{Record}, RecordKind.{RecordKind, TheVariants.{ToIn, ToEx, Allow, Block}}}}
 use Rattle.group_records.specs.{Family.{width}, Reading.{head_length}, Written.{is_of_family, report_length}, declared.family.Family.{Family, TheVariants.{V4, V6}}}
-use Rattle.socket_merge.specs.{Changes.{IsOneCallAfter, change_records, changed_on, changes_between}, History.{AcceptedCall, Change, Close, LeaveAll, Open, Socket, SocketCall, groups_opened, latest, open_sockets, socket_named, sockets_after}, Interface.{filters_on, interface, left_at, on_group, same_group}, Kept.{IsLawful, has_socket}, Refusal.{has_place, may_be_due, raw_report_length, raw_sources}}
+use Rattle.socket_merge.specs.{Changes.{IsOneCallAfter, change_records, changed_on, changes_between}, History.{AcceptedCall, Change, Close, LeaveAll, Open, Socket, SocketCall, latest, open_sockets, socket_named, sockets_after}, Interface.{filters_on, left_at, on_group, same_group}, Kept.{IsLawful, has_socket}, Refusal.{may_be_due, raw_report_length, raw_sources}}
 use Rattle.socket_merge.proofs.{Amounts.{HasName, HasName-of, has_name, kept-changed, kept-closed, none_passes, unnamed}, ByGroup.{flat_map-filter, group_of, same_group-turned, sum-one}, Changed.{changes-are, unchanged}, Lawful.{AreOthersKept, kept-opened}, RawOctets.{raw_here}, Reports.{merged-few, octets_of_record, record_less, short-said, sum_by-flat_map}, Wanted.{length-filter_le, same_group-itself}}
 
 -- ---- how long the records of one group are

@@ -1,5 +1,5 @@
 -- The slots of sockets and farewells, and what calls make of them.
-use Rattle.std.{proofs.{Common.{◌≡◌, ℕ, Bool, true, false, not, ◌&&◌, ◌||◌, cond, is_some, List, [], ◌∷◌, ◌++◌, map, Option, Some, None, refl, sym, ap, subst, ◌∙◌}, lemmas.{Cmp.{eq_by_cmp_equiv}, Map.{lookup-none, Entries.{lookup_head, lookup_tail, none_past_head}, Keys.{IsDistinct-from_sorted, IsDistinct-tail}, Made.{is_some-lookup}}, List.Elements.{All-cons, All-nil}}}, specs.{BTreeMap.{BTreeMap, IsOrdered, get, get_by, is_at}, List.{All, IsDistinct, cons_option, find, list_any}, Map.{keys_of, lookup, values_of, Calls.{RetainsPairs}}, Option.{option_map, unwrap_or}, Ordering.{eq_by_cmp}, declared.cmp.Ordering.{Ordering}}}
+use Rattle.std.{proofs.{Common.{◌≡◌, ℕ, Bool, true, false, not, ◌||◌, cond, is_some, List, [], ◌∷◌, ◌++◌, map, Option, Some, None, refl, sym, ap, subst, ◌∙◌}, lemmas.{Cmp.{eq_by_cmp_equiv}, Map.{lookup-none, Entries.{lookup_head, lookup_tail, none_past_head}, Keys.{IsDistinct-from_sorted, IsDistinct-tail}, Made.{is_some-lookup}}, List.Elements.{All-cons, All-nil}}}, specs.{BTreeMap.{BTreeMap, IsOrdered, get, get_by, is_at}, List.{All, IsDistinct, cons_option, find, list_any}, Map.{keys_of, values_of, Calls.{RetainsPairs}}, Option.{option_map, unwrap_or}, Ordering.{eq_by_cmp}, declared.cmp.Ordering.{Ordering}}}
 use Rattle.amt_values.{specs.{declared.address.Ip.{Ip}, Order.{ip_order}, Ascending.{IsAscending, ascending, has}}, proofs.{Orders.{ip_order-exact, ip_order-total}, AscendingLaws.{IsAscending-ascending, has-append, has-ascending, same_ascending}}}
 use Rattle.source_filter.specs.Filter.{wants_any}
 use Rattle.socket_merge.specs.{FullReport.{is_empty}, History.{Socket}, Interface.{on_group, same_group}, Kept.{AreMade, HasSlot, farewells_in, has_socket, kept_at, left_after, left_fresh, made, slot_at, slot_fresh, slot_left, slot_of, slots_of, some_wants}, Refusal.{may_be_due}, Sockets.{Farewell, left_in}}

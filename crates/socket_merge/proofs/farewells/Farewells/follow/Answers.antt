@@ -1,5 +1,4 @@
-use Rattle.std.proofs.Common.{ℕ, Bool, cond, List, Option, None, Some, sym, ap, subst, ◌∙◌}
-use Rattle.amt_values.specs.declared.address.Ip.{Ip}
+use Rattle.std.proofs.Common.{ℕ, Bool, cond, Option, None, Some, sym, ap, subst, ◌∙◌}
 use Rattle.socket_merge.{specs.Kept.{HasSlot}, proofs.Slots.{slot-is}}
 use Rattle.socket_merge.proofs.farewells.Farewells.follow.Goals as goal
 

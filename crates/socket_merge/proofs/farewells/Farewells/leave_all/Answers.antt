@@ -1,4 +1,4 @@
-use Rattle.std.{proofs.{Common.{ℕ, Bool, false, is_some, List, Option, subst, rules}, lemmas.Map.Keys.{IsDistinct-from_sorted}}, specs.Map.{keys_of}}
+use Rattle.std.{proofs.{Common.{ℕ, false, is_some, List, Option, subst, rules}, lemmas.Map.Keys.{IsDistinct-from_sorted}}, specs.Map.{keys_of}}
 use Rattle.amt_values.specs.{declared.address.Ip.{Ip}, Order.{ip_order}}
 use Rattle.source_filter.proofs.Compared.{compared}
 use Rattle.socket_merge.{specs.Kept.{AreMade, left_after, slot_left, some_wants}, proofs.Slots.{ordered_by, retained}}

@@ -1,5 +1,4 @@
-use Rattle.std.{proofs.{Common.{◌≡◌, ℕ, ◌++◌, ◌∷◌, [], map, Option, sym, ap, ◌∙◌}, lemmas.List.{map-append}}, specs.{List.{flat_map}, Map.Iter.{deref_pair}}}
-use Rattle.amt_values.specs.declared.address.Ip.{Ip}
+use Rattle.std.{proofs.{Common.{◌≡◌, ◌++◌, ◌∷◌, [], map, sym, ap, ◌∙◌}, lemmas.List.{map-append}}, specs.{List.{flat_map}, Map.Iter.{deref_pair}}}
 use Rattle.socket_merge.{specs.Kept.{said_of}, proofs.Reports.{nothing_said}}
 use Rattle.socket_merge.proofs.farewells.Farewells.report.Goals as goal
 

@@ -1,4 +1,4 @@
-use Rattle.std.{proofs.{Common.{of_calls, rules, tests, ap, sym, ◌∙◌, ◌≤◌, ◌<◌, ◌^◌, arith}, lemmas.Iterator.{Consumers.{YieldsList-at, YieldsList-from_rest, fits_by_from_yields_list, sum_by_from_yields_List}, YieldsList-from_map}}, specs.Map.{values_of, Iter.{deref}}}
+use Rattle.std.{proofs.{Common.{of_calls, rules, tests, ap, ◌∙◌, arith}, lemmas.Iterator.{Consumers.{YieldsList-at, YieldsList-from_rest, fits_by_from_yields_list, sum_by_from_yields_List}, YieldsList-from_map}}, specs.Map.{values_of, Iter.{deref}}}
 use Rattle.socket_merge.{specs.{Interface.{same_group}, Kept.{listed_on}}, proofs.NamedOnes.{listed-stored, listed_stored}}
 use Rattle.socket_merge.proofs.named.NamedSockets.listed_on.Goals as goal
 

@@ -1,6 +1,6 @@
 use Rattle.std.proofs.Common.{List, length, refl, sym, ap, subst, ◌∙◌, arith}
 use Rattle.source_filter.specs.Filter.{FilterValue}
-use Rattle.socket_merge.specs.{History.{AcceptedCall, Change, Socket, socket_named, sockets_after, with_call}, Kept.{IsSound}, Refusal.{refusal_of}, Sockets.{AreOfSocket, KeepsFarewells, SocketsHold, SocketsValue}, declared.fault.SocketFault.{SocketFault, TheVariants.{NoSocket}}}
+use Rattle.socket_merge.specs.{History.{AcceptedCall, Change, socket_named, sockets_after, with_call}, Kept.{IsSound}, Refusal.{refusal_of}, Sockets.{AreOfSocket, KeepsFarewells, SocketsHold, SocketsValue}, declared.fault.SocketFault.{TheVariants.{NoSocket}}}
 use Rattle.socket_merge.proofs.{Calls.{Does, MayChange-of, MayPass-of, does_changed, one_of, refused_change, sound_changed, unknown, value_of, within_limits}, Refused.{answers_accepted, answers_memory, answers_refused, refusal-unknown}, sockets.Sockets.change.Goals.{After-follow}}
 use Rattle.socket_merge.proofs.sockets.Sockets.change.Goals as goal
 

@@ -1,8 +1,8 @@
 use Rattle.std.{proofs.{Common.{◌≡◌, ℕ, ◌≤◌, true, max, List, sym, ap, subst, ◌∙◌, arith}, lemmas.Result.{IfOk-weaker}}, specs.{List.{All, flat_map}, Result.{IfOk}}}
-use Rattle.amt_values.specs.{Group.{is_forwardable}, declared.address.Ip.{Ip}}
+use Rattle.amt_values.specs.{Group.{is_forwardable}}
 use Rattle.source_filter.specs.declared.record.Record.{Record}
 use Rattle.group_records.specs.{Written.{IsOfFamily, report_length}, declared.family.Family.{Family}}
-use Rattle.socket_merge.specs.{FullReport.{family_by, full_report_of}, History.{AcceptedCall, Socket, latest, moment_read, open_sockets}, Kept.{farewells_in, said_of, slots_of}, Refusal.{raw_report_length}, Sockets.{SocketsHold, SocketsValue}}
+use Rattle.socket_merge.specs.{FullReport.{family_by, full_report_of}, History.{AcceptedCall, Socket, moment_read}, Kept.{farewells_in, said_of, slots_of}, Refusal.{raw_report_length}, Sockets.{SocketsHold, SocketsValue}}
 use Rattle.socket_merge.proofs.{Calls.{value_of, within_limits}, Reports.{full-forwarded, full-of_family, full-within_raw, full_report-is}, sockets.Sockets.full_report.Goals.{After-report, then-v6, else-v6}}
 use Rattle.socket_merge.proofs.sockets.Sockets.full_report.Goals as goal
 

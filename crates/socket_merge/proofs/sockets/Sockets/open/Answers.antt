@@ -1,5 +1,5 @@
 use Rattle.std.proofs.Common.{is_some, List, length, refl, sym, ap, subst, ◌∙◌, arith}
-use Rattle.socket_merge.specs.{History.{AcceptedCall, Open, Socket, socket_named}, Kept.{IsSound}, Refusal.{refusal_of}, Sockets.{SocketsHold, SocketsValue}, declared.fault.SocketFault.{SocketFault, TheVariants.{Taken}}}
+use Rattle.socket_merge.specs.{History.{AcceptedCall, Open, Socket, socket_named}, Kept.{IsSound}, Sockets.{SocketsHold, SocketsValue}, declared.fault.SocketFault.{TheVariants.{Taken}}}
 use Rattle.socket_merge.proofs.{Calls.{MayPass-of, Opens, does_opened, refused_opening, sound_opened, taken, within_limits}, Refused.{answers_accepted, answers_memory, answers_refused, refusal-taken}, sockets.Sockets.open.Goals.{After-drop_old}}
 use Rattle.socket_merge.proofs.sockets.Sockets.open.Goals as goal
 
