@@ -1,9 +1,9 @@
 -- The addresses of the records of a full report, and of those of a change.
-use Rattle.std.{proofs.{Common.{◌≡◌, ℕ, ◌/◌, ◌^◌, true, List, [], ◌∷◌, arith}, lemmas.{Bool.{and_parts, eqb-true}, List.Elements.{All-filter, All-nil}}}, specs.List.{All, flat_map}}
-use Rattle.amt_values.specs.{Address.{IsAddress}, Group.{is_forwardable}, Order.{ip_order}, declared.address.Ip.{Ip, TheVariants.{V4, V6}}, Ascending.{ascending}}
+use Rattle.std.{proofs.{Common.{◌≡◌, ℕ, ◌/◌, ◌^◌, true, List, [], ◌∷◌, arith}, lemmas.{Bool.{and_parts, eqb-true}, List.Elements.{All-nil}}}, specs.List.{All, flat_map}}
+use Rattle.amt_values.specs.{Address.{IsAddress}, Group.{is_forwardable}, declared.address.Ip.{Ip, TheVariants.{V4, V6}}}
 use Rattle.source_filter.specs.{Changes.{changes_on}, declared.record.{Record.{Record}, RecordKind.{RecordKind, TheVariants.{ToIn}}}}
 use Rattle.group_records.specs.{Written.{FitsOctets, HasFittingAddresses, IsOfFamily, is_of_family}, declared.family.Family.{Family}}
-use Rattle.socket_merge.{specs.{Changes.{change_records}, FullReport.{full_on, full_report_of, groups_of, is_recent, state_kind}, History.{AcceptedCall, groups_opened, open_sockets}, Interface.{filters_on, interface, is_wanted, left_at}}, proofs.{Changed.{All-changes_on, All-walked}, Reports.{All-said}, Wanted.{All-ascending, All-merged}}}
+use Rattle.socket_merge.{specs.{Changes.{change_records}, FullReport.{full_on, full_report_of, groups_of, is_recent, state_kind}, History.{AcceptedCall, groups_opened, open_sockets}, Interface.{filters_on, interface, is_wanted, left_at}}, proofs.{Changed.{All-changes_by}, Reports.{All-said, all_by}, Wanted.{All-merged}}}
 use Rattle.amt_pair.proofs.{AcceptedCalls.{AreAccepted}, InterfaceFilters.{filters-of}, OpenSockets.{HaveFilters, IsGroupOf, groups-of}}
 
 -- the record may stand in a report of the family
@@ -43,9 +43,7 @@ module _ (family : Family) where
     -- what holds of the records of each group of the family holds of all
     All-groups : (P : Record → Type 0) (f : Ip → List Record) → ((group : Ip) → IsGroupOf family group → All P (f group)) → All P (flat_map f (groups_of family history))
     All-groups P f each =
-        All-walked P (IsGroupOf family) f (groups_of family history)
-        (All-filter (is_of_family family) (IsGroupOf family) (ascending ip_order (groups_opened history))
-        (All-ascending (IsGroupOf family) (groups_opened history) (groups-of family history accepted))) each
+        All-said P (IsGroupOf family) family f (groups_opened history) (groups-of family history accepted) (λ group is own. each group is)
 
     -- the sources of a group's filter are such
     sources-of : HaveFilters history → (group : Ip) → All IsSourceOf (interface history group).sources
@@ -61,9 +59,9 @@ unfolding full_report_of
 full-may_stand family history at keep accepted filters =
     All-groups family history accepted (MayStand family) (full_on history at keep) (λ group is.
     let filter = interface history group in
-    All-said (MayStand family) true (is_wanted history group) (is_recent at keep (left_at history group)) group filter
-    (λ of wanted. may-stand family group (state_kind filter.mode) filter.sources is (sources-of family history accepted filters group))
-    (λ of recent. may-stand family group ToIn [] is (All-nil (IsSourceOf family))))
+    all_by (MayStand family) (is_wanted history group) (is_recent at keep (left_at history group)) group filter
+    (may-stand family group (state_kind filter.mode) filter.sources is (sources-of family history accepted filters group))
+    (may-stand family group ToIn [] is (All-nil (IsSourceOf family))))
 
 -- and so may those of a change
 pub changed-may_stand : (family : Family) (newest : AcceptedCall) (older : List AcceptedCall) → AreAccepted family (newest ∷ older) → HaveFilters (newest ∷ older)
@@ -71,6 +69,8 @@ pub changed-may_stand : (family : Family) (newest : AcceptedCall) (older : List 
 unfolding change_records
 changed-may_stand family newest older accepted filters =
     All-groups family (newest ∷ older) accepted (MayStand family) (λ group. changes_on (interface older group) (interface (newest ∷ older) group) group) (λ group is.
-    All-changes_on (MayStand family) group (IsSourceOf family) (λ kind sources all. may-stand family group kind sources is all)
-    (interface older group) (interface (newest ∷ older) group) (sources-of family older accepted.1 filters.1 group)
+    let before = interface older group in
+    let after = interface (newest ∷ older) group in
+    All-changes_by (MayStand family) group (IsSourceOf family) (λ kind sources all. may-stand family group kind sources is all)
+    before.mode after.mode before.sources after.sources (sources-of family older accepted.1 filters.1 group)
     (sources-of family (newest ∷ older) accepted filters group))

@@ -1,10 +1,10 @@
 -- The records of a full report, and those of a change, by group.
-use Rattle.std.{proofs.{Common.{◌≡◌, ◌≢◌, ℕ, ◌&&◌, Bool, true, false, List, [], ◌∷◌, ◌++◌, refl, sym, ap, ◌∙◌, append-nil, inl, inr}, lemmas.{Bool.{and_cases, cond-false, cond-true, false_from_ne_true, or_parts}, Cmp.{eq_by_cmp_equiv}, List.Elements.{All-head, All-tail, filter-append}}}, specs.List.{All, flat_map}}
+use Rattle.std.{proofs.{Common.{◌≡◌, ◌≢◌, ℕ, ◌&&◌, Bool, false, List, [], ◌∷◌, ◌++◌, refl, sym, ap, ◌∙◌, append-nil, inl, inr}, lemmas.{Bool.{and_cases, cond-false, cond-true, false_from_ne_true, or_parts}, Cmp.{eq_by_cmp_equiv}, List.Elements.{All-head, All-tail, filter-append}}}, specs.List.{All, flat_map}}
 use Rattle.amt_values.{specs.{Order.{ip_order}, declared.address.Ip.{Ip}, Ascending.{IsAscending, ascending, has}}, proofs.{Orders.{ip_order-exact, ip_order-total}, AscendingLaws.{IsAscending-ascending, IsAscending-filter, has-ascending, has-filter}}}
 use Rattle.source_filter.specs.{Changes.{changes_on}, Filter.{FilterValue}, declared.record.Record.{Record}}
 use Rattle.group_records.specs.{Written.{is_of_family}, declared.family.Family.{Family}}
 use Rattle.endpoint_membership.specs.Log.{on_group}
-use Rattle.socket_merge.{specs.{Changes.{change_records}, FullReport.{farewell, full_on, full_report_of, groups_of, is_recent, states}, History.{AcceptedCall, groups_opened}, Interface.{interface, is_wanted, left_at, same_group}}, proofs.{ByGroup.{flat_map-same}, Changed.{All-changes_on}, RawOctets.{never_left, unwanted}, Reports.{All-said}, Wanted.{same_group-itself}}}
+use Rattle.socket_merge.{specs.{Changes.{change_records}, FullReport.{farewell, full_on, full_report_of, groups_of, is_recent, states}, History.{AcceptedCall, groups_opened}, Interface.{interface, is_wanted, left_at, same_group}}, proofs.{ByGroup.{flat_map-same, never_left, unwanted}, Changed.{All-changes_by}, Reports.{all_by}, Wanted.{same_group-itself}}}
 use Rattle.amt_pair.proofs.{AcceptedCalls.{AreAccepted}, InterfaceFilters.{changes-itself, interface-ascends, interface-unopened, same-filter, unopened-before}, KeptCalls.{has-such}, MadeGood.{changes-none, unsaid}, OpenSockets.{HaveFilters, IsGroupOf, groups-of}, Tunnel.{IsChanged, IsFull}}
 
 -- ---- records by group
@@ -65,7 +65,7 @@ module _ (family : Family) where
   unfolding full_report_of
   full-is history at keep accepted group =
       on-said (full_on history at keep) (groups_of family history) (groups-ascend history)
-      (λ one. All-said (IsOn one) true (is_wanted history one) (is_recent at keep (left_at history one)) one (interface history one) (λ of wanted. refl) (λ of recent. refl))
+      (λ one. all_by (IsOn one) (is_wanted history one) (is_recent at keep (left_at history one)) one (interface history one) refl refl)
       (λ one none. let unopened = unopened-of history one accepted none in
       unsaid (is_wanted history one) (is_recent at keep (left_at history one)) (states one (interface history one) ∷ []) (farewell one ∷ [])
       (unwanted history one unopened) (ap (is_recent at keep) (never_left history one unopened))) group
@@ -78,7 +78,9 @@ module _ (family : Family) where
     unfolding change_records
     changed-is group =
         on-said (λ one. changes_on (interface older one) (interface (newest ∷ older) one) one) (groups_of family (newest ∷ older)) (groups-ascend (newest ∷ older))
-        (λ one. All-changes_on (IsOn one) one (λ source. source ≡ source) (λ kind sources all. refl) (interface older one) (interface (newest ∷ older) one)
+        (λ one. let before = interface older one in
+        let after = interface (newest ∷ older) one in
+        All-changes_by (IsOn one) one (λ source. source ≡ source) (λ kind sources all. refl) before.mode after.mode before.sources after.sources
         (λ k source below. refl) (λ k source below. refl))
         (λ one none. let unopened = unopened-of (newest ∷ older) one accepted none in
         changes-none (interface older one) (interface (newest ∷ older) one) one (interface-unopened older one (unopened-before newest older one unopened))

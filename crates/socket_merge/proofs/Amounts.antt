@@ -1,8 +1,9 @@
--- What the sockets of a group come to: a sum over all sockets, and what a call makes of it.
-use Rattle.std.{proofs.{Common.{◌≡◌, ℕ, ◌+◌, ◌≤◌, Bool, true, false, not, cond, List, [], ◌∷◌, ◌++◌, length, map, filter, Option, Some, None, refl, sym, ap, ◌∙◌, arith}, lemmas.{List.{Filters.{sum_by-filter_both}, Sums.{sum_by-cons, sum_by_push}}, Slice.Eq.{bytes_eq-Decides}}}, specs.List.{count_by, find, sum_by}}
+-- Sums over sockets, and the socket of a name among the others.
+use Rattle.std.{proofs.{Common.{◌≡◌, ℕ, ◌+◌, ◌≤◌, Bool, true, false, not, cond, List, [], ◌∷◌, ◌++◌, length, map, filter, Option, Some, None, refl, sym, ap, ◌∙◌, arith}, lemmas.{List.{Elements.{All-cons, All-head, All-tail, filter-append}, Filters.{sum_by-filter_both}, Sums.{sum_by-append, sum_by-cons, sum_by_push}}, Slice.Eq.{bytes_eq-Decides}}}, specs.List.{All, count_by, find, sum_by}}
 use Rattle.amt_values.specs.declared.address.Ip.{Ip}
 use Rattle.source_filter.specs.Filter.{FilterValue}
-use Rattle.socket_merge.specs.{History.{Socket, refiltered, same_name, socket_named}, Interface.{on_group, same_group}}
+use Rattle.socket_merge.proofs.Wanted.{same_group-itself}
+use Rattle.socket_merge.specs.{History.{Change, Close, Socket, refiltered, same_name, socket_named, sockets_after}, Interface.{on_group, same_group}}
 
 sum_by-cond : {X : Type 0} (f : X → ℕ) (test : Bool) (x : X) (xs : List X) → sum_by f (cond test (x ∷ xs) xs) ≡ cond test (f x) 0 + sum_by f xs
 sum_by-cond f true x xs = sum_by-cons f x xs
@@ -12,9 +13,9 @@ pub sum_by-filter : {X : Type 0} (f : X → ℕ) (p : X → Bool) (xs : List X) 
 sum_by-filter f p [] = refl
 sum_by-filter f p (x ∷ xs) = omega (arith, sum_by-cond f (p x) x (filter p xs), sum_by-filter f p xs, sum_by-cons (λ y. cond (p y) (f y) 0) x xs)
 
-pub length-as_sum : {X : Type 0} (xs : List X) → length xs ≡ sum_by (λ x. 1) xs
-length-as_sum [] = refl
-length-as_sum (x ∷ xs) = omega (arith, length-as_sum xs, sum_by-cons (λ y. 1) x xs)
+-- how many sources a socket lists
+abbrev pub listing : Socket → ℕ
+listing socket = length socket.filter.sources
 
 -- what a socket adds to the sum of a group
 abbrev pub part : (Socket → ℕ) → Ip → Socket → ℕ
@@ -22,6 +23,10 @@ part measure group socket = cond (same_group group socket.group) (measure socket
 
 pub sum_by-on_group : (measure : Socket → ℕ) (group : Ip) (sockets : List Socket) → sum_by measure (on_group group sockets) ≡ sum_by (part measure group) sockets
 sum_by-on_group measure group sockets = sum_by-filter measure (λ socket. same_group group socket.group) sockets
+
+-- which is all in its own
+pub own_part : (measure : Socket → ℕ) (socket : Socket) → part measure socket.group socket ≡ measure socket
+own_part measure socket = ap (λ (test : Bool). cond test (measure socket) 0) (same_group-itself socket.group)
 
 -- the socket has the name
 abbrev pub has_name : List ℕ → Socket → Bool
@@ -38,79 +43,16 @@ with_filter filter socket = record { name = socket.name; group = socket.group; f
 pub same_name-exact : (one other : List ℕ) → same_name one other ≡ true → one ≡ other
 same_name-exact one other same = (bytes_eq-Decides one other).0 same
 
+pub some_is : {X : Type 0} (one other : X) → Some one ≡ Some other → one ≡ other
+some_is one other same = cc
+
 none_first : {X : Type 0} (test : Bool) (x : X) (found : Option X) (rest : ℕ) → (found ≡ None → rest ≡ 0) → cond test (Some x) found ≡ None → cond test 1 0 + rest ≡ 0
 none_first true x found rest after none = absurd cc
 none_first false x found rest after none = omega (arith, after none)
 
-none_passes : {X : Type 0} (p : X → Bool) (xs : List X) → find p xs ≡ None → count_by p xs ≡ 0
+pub none_passes : {X : Type 0} (p : X → Bool) (xs : List X) → find p xs ≡ None → count_by p xs ≡ 0
 none_passes p [] none = refl
-none_passes p (x ∷ xs) none =
-    sum_by-cons (λ y. cond (p y) 1 0) x xs ∙ none_first (p x) x (find p xs) (count_by p xs) (none_passes p xs) none
-
-filtered_first : {X : Type 0} (test : Bool) (x : X) (xs filtered : List X) (rest : ℕ) → (rest ≡ 0 → filtered ≡ xs) → cond test 1 0 + rest ≡ 0 → cond (not test) (x ∷ filtered) filtered ≡ x ∷ xs
-filtered_first true x xs filtered rest same none = absurd (omega arith)
-filtered_first false x xs filtered rest same none = ap (λ ys. x ∷ ys) (same (omega arith))
-
-none_filtered : {X : Type 0} (p : X → Bool) (xs : List X) → count_by p xs ≡ 0 → filter (λ x. not (p x)) xs ≡ xs
-none_filtered p [] none = refl
-none_filtered p (x ∷ xs) none =
-    filtered_first (p x) x xs (filter (λ y. not (p y)) xs) (count_by p xs) (none_filtered p xs) (sym (sum_by-cons (λ y. cond (p y) 1 0) x xs) ∙ none)
-
-pub some_is : {X : Type 0} (one other : X) → Some one ≡ Some other → one ≡ other
-some_is one other same = cc
-
-closed_first : (measure : Socket → ℕ) (test : Bool) (first socket : Socket) (found : Option Socket) (more filtered : List Socket) (rest : ℕ)
-    → (rest ≡ 0 → filtered ≡ more) → (rest ≤ 1 → found ≡ Some socket → sum_by measure filtered + measure socket ≡ sum_by measure more)
-    → cond test 1 0 + rest ≤ 1 → cond test (Some first) found ≡ Some socket
-    → sum_by measure (cond (not test) (first ∷ filtered) filtered) + measure socket ≡ sum_by measure (first ∷ more)
-closed_first measure true first socket found more filtered rest kept after few is =
-    let all : filtered ≡ more = kept (omega arith) in
-    let total = ap (sum_by measure) all in
-    let here = ap measure (some_is first socket is) in
-    omega (arith, total, here, sum_by-cons measure first more)
-closed_first measure false first socket found more filtered rest kept after few is =
-    omega (arith, after (omega arith) is, sum_by-cons measure first filtered, sum_by-cons measure first more)
-
--- a sum without the socket that is closed
-pub sum_by-closed : (measure : Socket → ℕ) (name : List ℕ) (socket : Socket) (sockets : List Socket) → count_by (has_name name) sockets ≤ 1 → socket_named name sockets ≡ Some socket
-    → sum_by measure (filter (λ one. not (has_name name one)) sockets) + measure socket ≡ sum_by measure sockets
-sum_by-closed measure name socket [] few is = absurd cc
-sum_by-closed measure name socket (first ∷ more) few is =
-    closed_first measure (has_name name first) first socket (socket_named name more) more (filter (λ one. not (has_name name one)) more) (count_by (has_name name) more)
-    (none_filtered (has_name name) more) (sum_by-closed measure name socket more) (omega (arith, few, sum_by-cons (λ one. cond (has_name name one) 1 0) first more)) is
-
-renamed_first : (test : Bool) (filter : FilterValue) (first : Socket) (more changed : List Socket) (rest : ℕ) → (rest ≡ 0 → changed ≡ more) → cond test 1 0 + rest ≡ 0
-    → cond test (with_filter filter first) first ∷ changed ≡ first ∷ more
-renamed_first true filter first more changed rest same none = absurd (omega arith)
-renamed_first false filter first more changed rest same none = ap (λ sockets. first ∷ sockets) (same (omega arith))
-
-pub none_refiltered : (name : List ℕ) (filter : FilterValue) (sockets : List Socket) → count_by (has_name name) sockets ≡ 0 → map (refiltered name filter) sockets ≡ sockets
-none_refiltered name filter [] none = refl
-none_refiltered name filter (first ∷ more) none =
-    renamed_first (has_name name first) filter first more (map (refiltered name filter) more) (count_by (has_name name) more)
-    (none_refiltered name filter more) (sym (sum_by-cons (λ one. cond (has_name name one) 1 0) first more) ∙ none)
-
-changed_first : (measure : Socket → ℕ) (test : Bool) (filter : FilterValue) (first socket : Socket) (found : Option Socket) (more changed : List Socket) (rest : ℕ)
-    → (rest ≡ 0 → changed ≡ more) → (rest ≤ 1 → found ≡ Some socket → sum_by measure changed + measure socket ≡ sum_by measure more + measure (with_filter filter socket))
-    → cond test 1 0 + rest ≤ 1 → cond test (Some first) found ≡ Some socket
-    → sum_by measure (cond test (with_filter filter first) first ∷ changed) + measure socket ≡ sum_by measure (first ∷ more) + measure (with_filter filter socket)
-changed_first measure true filter first socket found more changed rest kept after few is =
-    let all : changed ≡ more = kept (omega arith) in
-    let total = ap (sum_by measure) all in
-    let here = ap measure (some_is first socket is) in
-    let there = ap (λ (one : Socket). measure (with_filter filter one)) (some_is first socket is) in
-    omega (arith, total, here, there, sum_by-cons measure first more, sum_by-cons measure (with_filter filter first) changed)
-changed_first measure false filter first socket found more changed rest kept after few is =
-    omega (arith, after (omega arith) is, sum_by-cons measure first changed, sum_by-cons measure first more)
-
--- a sum where the socket has another filter
-pub sum_by-changed : (measure : Socket → ℕ) (name : List ℕ) (filter : FilterValue) (socket : Socket) (sockets : List Socket) → count_by (has_name name) sockets ≤ 1
-    → socket_named name sockets ≡ Some socket
-    → sum_by measure (map (refiltered name filter) sockets) + measure socket ≡ sum_by measure sockets + measure (with_filter filter socket)
-sum_by-changed measure name filter socket [] few is = absurd cc
-sum_by-changed measure name filter socket (first ∷ more) few is =
-    changed_first measure (has_name name first) filter first socket (socket_named name more) more (map (refiltered name filter) more) (count_by (has_name name) more)
-    (none_refiltered name filter more) (sum_by-changed measure name filter socket more) (omega (arith, few, sum_by-cons (λ one. cond (has_name name one) 1 0) first more)) is
+none_passes p (x ∷ xs) none = sum_by-cons (λ y. cond (p y) 1 0) x xs ∙ none_first (p x) x (find p xs) (count_by p xs) (none_passes p xs) none
 
 apart_by : (test : Bool) (before : ℕ) → before ≤ 1 → (test ≡ true → before ≡ 0) → before + cond test 1 0 ≤ 1
 apart_by true before few none = omega (arith, none refl)
@@ -124,25 +66,111 @@ AreApart-opened sockets socket apart absent name =
     let within = apart_by (has_name name socket) (count_by (has_name name) sockets) (apart name) none in
     omega (arith, within, sum_by_push (λ one. cond (has_name name one) 1 0) sockets socket)
 
-pub AreApart-closed : (test : Socket → Bool) (sockets : List Socket) → AreApart sockets → AreApart (filter test sockets)
-AreApart-closed test sockets apart name =
-    omega (arith, apart name, sum_by-filter_both test (λ one. not (test one)) (λ _. refl) (λ one. cond (has_name name one) 1 0) sockets)
+pub AreApart-filter : (test : Socket → Bool) (sockets : List Socket) → AreApart sockets → AreApart (filter test sockets)
+AreApart-filter test sockets apart name = omega (arith, apart name, sum_by-filter_both test (λ one. not (test one)) (λ _. refl) (λ one. cond (has_name name one) 1 0) sockets)
 
-name_kept : (test : Bool) (filter : FilterValue) (socket : Socket) → (cond test (with_filter filter socket) socket).name ≡ socket.name
-name_kept true filter socket = refl
-name_kept false filter socket = refl
+-- ---- the socket of a name
 
-named-refiltered : (name other : List ℕ) (filter : FilterValue) (sockets : List Socket) → count_by (has_name other) (map (refiltered name filter) sockets) ≡ count_by (has_name other) sockets
-named-refiltered name other filter [] = refl
-named-refiltered name other filter (first ∷ more) =
-    let here = ap {B = ℕ} (λ (kept : List ℕ). cond (same_name other kept) 1 0) (name_kept (has_name name first) filter first) in
-    omega (
-      arith,
-      here,
-      named-refiltered name other filter more,
-      sum_by-cons (λ one. cond (has_name other one) 1 0) first more,
-      sum_by-cons (λ one. cond (has_name other one) 1 0) (refiltered name filter first) (map (refiltered name filter) more),
-    )
+-- the socket among the others, without it, and with another filter of it
+pub record IsAmong (socket : Socket) (sockets closed : List Socket) (changed : FilterValue → List Socket) : Type 0 where
+  pub before : List Socket
+  pub after : List Socket
+  pub whole : sockets ≡ before ++ socket ∷ after
+  pub rest : closed ≡ before ++ after
+  pub again : (filter : FilterValue) → changed filter ≡ before ++ with_filter filter socket ∷ after
 
-pub AreApart-changed : (name : List ℕ) (filter : FilterValue) (sockets : List Socket) → AreApart sockets → AreApart (map (refiltered name filter) sockets)
-AreApart-changed name filter sockets apart other = omega (arith, apart other, named-refiltered name other filter sockets)
+-- the socket of the name, without it, and with another filter of it
+abbrev pub HasName : List ℕ → Socket → List Socket → Type 0
+HasName name socket sockets = IsAmong socket sockets (sockets_after (Close name) sockets) (λ filter. sockets_after (Change name filter) sockets)
+
+-- where no socket has the name, all stay
+pub record AreSame (sockets closed : List Socket) (changed : FilterValue → List Socket) : Type 0 where
+  pub rest : closed ≡ sockets
+  pub again : (filter : FilterValue) → changed filter ≡ sockets
+
+same_by : (test : Bool) (first : Socket) (more closed : List Socket) (changed : FilterValue → List Socket) (number : ℕ) → (number ≡ 0 → AreSame more closed changed) → cond test 1 0 + number ≡ 0
+    → AreSame (first ∷ more) (cond (not test) (first ∷ closed) closed) (λ filter. cond test (with_filter filter first) first ∷ changed filter)
+same_by true first more closed changed number same none = absurd (omega arith)
+same_by false first more closed changed number same none =
+    let is = same (omega arith) in record { rest = ap (λ sockets. first ∷ sockets) is.rest; again = λ filter. ap (λ sockets. first ∷ sockets) (is.again filter) }
+
+pub unnamed : (name : List ℕ) (sockets : List Socket) → count_by (has_name name) sockets ≡ 0
+    → AreSame sockets (sockets_after (Close name) sockets) (λ filter. sockets_after (Change name filter) sockets)
+unnamed name [] none = record { rest = refl; again = λ filter. refl }
+unnamed name (first ∷ more) none =
+    same_by (has_name name first) first more (sockets_after (Close name) more) (λ filter. sockets_after (Change name filter) more) (count_by (has_name name) more) (unnamed name more)
+    (sym (sum_by-cons (λ one. cond (has_name name one) 1 0) first more) ∙ none)
+
+among_by : (test : Bool) (first socket : Socket) (found : Option Socket) (more closed : List Socket) (changed : FilterValue → List Socket) (number : ℕ) → (number ≡ 0 → AreSame more closed changed)
+    → (number ≤ 1 → found ≡ Some socket → IsAmong socket more closed changed) → cond test 1 0 + number ≤ 1 → cond test (Some first) found ≡ Some socket
+    → IsAmong socket (first ∷ more) (cond (not test) (first ∷ closed) closed) (λ filter. cond test (with_filter filter first) first ∷ changed filter)
+among_by true first socket found more closed changed number same among few is =
+    let rest = same (omega arith) in
+    let here = some_is first socket is in
+    record {
+      before = [];
+      after = more;
+      whole = ap (λ (one : Socket). one ∷ more) here;
+      rest = rest.rest;
+      again = λ filter. ap (λ (one : Socket). with_filter filter one ∷ changed filter) here ∙ ap (λ (sockets : List Socket). with_filter filter socket ∷ sockets) (rest.again filter);
+    }
+among_by false first socket found more closed changed number same among few is =
+    let later = among (omega arith) is in
+    record {
+      before = first ∷ later.before;
+      after = later.after;
+      whole = ap (λ sockets. first ∷ sockets) later.whole;
+      rest = ap (λ sockets. first ∷ sockets) later.rest;
+      again = λ filter. ap (λ sockets. first ∷ sockets) (later.again filter);
+    }
+
+pub HasName-of : (name : List ℕ) (socket : Socket) (sockets : List Socket) → count_by (has_name name) sockets ≤ 1 → socket_named name sockets ≡ Some socket → HasName name socket sockets
+HasName-of name socket [] few is = absurd cc
+HasName-of name socket (first ∷ more) few is =
+    among_by (has_name name first) first socket (socket_named name more) more (sockets_after (Close name) more) (λ filter. sockets_after (Change name filter) more) (count_by (has_name name) more) (unnamed name more)
+    (HasName-of name socket more) (omega (arith, few, sum_by-cons (λ one. cond (has_name name one) 1 0) first more)) is
+
+module _ (socket : Socket) (sockets closed : List Socket) (changed : FilterValue → List Socket) (is : IsAmong socket sockets closed changed) where
+  with-sum : (measure : Socket → ℕ) (all : List Socket) (one : Socket) → all ≡ is.before ++ one ∷ is.after → sum_by measure all ≡ sum_by measure closed + measure one
+  with-sum measure all one whole =
+      let split = ap (sum_by measure) whole in
+      let rest = ap (sum_by measure) is.rest in
+      omega (arith, split, rest, sum_by-append measure is.before (one ∷ is.after), sum_by-append measure is.before is.after, sum_by-cons measure one is.after)
+
+  -- a sum without the socket, and with another filter of it
+  pub sum-closed : (measure : Socket → ℕ) → sum_by measure sockets ≡ sum_by measure closed + measure socket
+  sum-closed measure = with-sum measure sockets socket is.whole
+
+  pub sum-changed : (measure : Socket → ℕ) (filter : FilterValue) → sum_by measure (changed filter) ≡ sum_by measure closed + measure (with_filter filter socket)
+  sum-changed measure filter = with-sum measure (changed filter) (with_filter filter socket) (is.again filter)
+
+  pub AreApart-changed : (filter : FilterValue) → AreApart sockets → AreApart (changed filter)
+  AreApart-changed filter apart name = omega (arith, apart name, sum-closed (λ one. cond (has_name name one) 1 0), sum-changed (λ one. cond (has_name name one) 1 0) filter)
+
+  without : (other : Ip) (one : Socket) → same_group other one.group ≡ false → on_group other (is.before ++ one ∷ is.after) ≡ on_group other closed
+  without other one apart =
+      let here : Socket → Bool = λ each. same_group other each.group in
+      filter-append here is.before (one ∷ is.after)
+      ∙ ap (λ (test : Bool). on_group other is.before ++ cond test (one ∷ on_group other is.after) (on_group other is.after)) apart
+      ∙ sym (filter-append here is.before is.after) ∙ ap (on_group other) (sym is.rest)
+
+  -- the other groups have the sockets that they had
+  pub kept-closed : (other : Ip) → same_group other socket.group ≡ false → on_group other closed ≡ on_group other sockets
+  kept-closed other apart = sym (ap (on_group other) is.whole ∙ without other socket apart)
+
+  pub kept-changed : (filter : FilterValue) (other : Ip) → same_group other socket.group ≡ false → on_group other (changed filter) ≡ on_group other sockets
+  kept-changed filter other apart =
+      ap (on_group other) (is.again filter) ∙ without other (with_filter filter socket) apart ∙ kept-closed other apart
+
+all_by : (P : Socket → Type 0) (test : Bool) (filter : FilterValue) (socket : Socket) → (test ≡ true → P (with_filter filter socket)) → P socket → P (cond test (with_filter filter socket) socket)
+all_by P true filter socket changed here = changed refl
+all_by P false filter socket changed here = here
+
+-- what holds of each socket, and with the filter of each that has the name, holds of each after the change
+pub All-refiltered : (P : Socket → Type 0) (name : List ℕ) (filter : FilterValue) (sockets : List Socket) → All (λ one. has_name name one ≡ true → P (with_filter filter one)) sockets → All P sockets
+    → All P (map (refiltered name filter) sockets)
+All-refiltered P name filter [] changed all = all
+All-refiltered P name filter (first ∷ more) changed all =
+    All-cons P (refiltered name filter first) (map (refiltered name filter) more)
+    (all_by P (has_name name first) filter first (All-head (λ one. has_name name one ≡ true → P (with_filter filter one)) first more changed) (All-head P first more all))
+    (All-refiltered P name filter more (All-tail (λ one. has_name name one ≡ true → P (with_filter filter one)) first more changed) (All-tail P first more all))

@@ -1,11 +1,123 @@
--- Sums and lists over groups that ascend, and over tallies that ascend by group.
-use Rattle.std.proofs.{Common.{◌≡◌, ℕ, ◌+◌, ◌≤◌, Bool, true, false, not, ◌&&◌, ◌||◌, cond, List, [], ◌∷◌, ◌++◌, filter, Option, Some, None, refl, sym, ap, ◌∙◌, arith}, lemmas.List.{Filters.{sum_by-filter_both}, Sums.{sum_by-cons, sum_by-le-sum_by}}}
-use Rattle.std.{proofs.lemmas.Map.Keys.{sorted_head, sorted_tail}, specs.{List.{AllByRecursion, cons_option, find, flat_map, list_any, sum_by}, Map.{keys_of}, Option.{option_map, unwrap_or}, Ordering.{is_eq, ordering_reverse}, declared.cmp.Ordering.{Ordering, TheVariants.{Less, Equal, Greater}}}}
-use Rattle.amt_values.{specs.{declared.address.Ip.{Ip}, Order.{ip_order}, Ascending.{IsAscending, has}}, proofs.{Orders.{ip_order-exact, ip_order-total}, AscendingLaws.{IsAscending-filter, has-filter, same_ascending}}}
-use Rattle.socket_merge.{specs.{Interface.{same_group}, Kept.{AreNeeded, blank, farewells_in, tally_at}, Sockets.{Farewell, left_in}, declared.stored.Tally.{Tally}}, proofs.Wanted.{same_group-exact, same_group-itself, some_item}}
+-- Which groups have sockets, and were opened; sums and texts by group.
+use Rattle.std.proofs.Common.{◌≡◌, ℕ, ◌+◌, Bool, true, false, not, ◌&&◌, ◌||◌, cond, List, [], ◌∷◌, ◌++◌, filter, length, map, Option, Some, None, if◌then◌else◌, refl, sym, ap, subst, ◌∙◌, arith}
+use Rattle.std.{proofs.lemmas.{Cmp.{eq_by_cmp_equiv}, List.{Elements.{All-filter, All-head, All-nil, All-push, All-tail, All-weaker}, Sums.{sum_by-cons}}, Map.Keys.{IsDistinct-head, IsDistinct-tail}}, specs.List.{All, AllByRecursion, IsDistinct, flat_map, list_any, sum_by}}
+use Rattle.std.specs.Ordering.{eq_by_cmp}
+use Rattle.amt_values.{specs.{declared.address.Ip.{Ip}, Order.{ip_order}, Ascending.{IsAscending, has}}, proofs.{Orders.{ip_order-exact, ip_order-total}, AscendingLaws.{IsAscending-filter, has-append, has-filter, same_ascending}}}
+use Rattle.socket_merge.specs.{FullReport.{is_empty}, History.{AcceptedCall, Change, Close, LeaveAll, Open, Socket, SocketCall, group_opened, groups_opened, open_sockets, sockets_after}, Interface.{is_wanted, left_at, on_group, same_group}, Kept.{has_socket, listed, listed_on}}
+use Rattle.source_filter.specs.{Filter.{wants_any}, Merging.{merged}}
+use Rattle.socket_merge.{specs.Interface.{filters_on}, proofs.{Amounts.{All-refiltered, has_name, listing}, Wanted.{same_group-exact, same_group-itself, some_item, wants_any-merged}}}
 
--- both lists have each group that passes
-both_have : (one other passes : Bool) → (passes ≡ true → one ≡ true) → (passes ≡ true → other ≡ true) → (one && passes) ≡ (other && passes)
+-- the group of a socket
+abbrev pub group_of : Socket → Ip
+group_of socket = socket.group
+
+some_by : (test rest : Bool) (socket : Socket) (on : List Socket) → not (is_empty on) ≡ rest → not (is_empty (cond test (socket ∷ on) on)) ≡ (test || rest)
+some_by true rest socket on is = refl
+some_by false rest socket on is = is
+
+-- a group has a socket where it is among their groups
+pub has_socket-listed : (group : Ip) (sockets : List Socket) → has_socket group sockets ≡ has ip_order (map group_of sockets) group
+has_socket-listed group [] = refl
+has_socket-listed group (socket ∷ more) =
+    some_by (same_group group socket.group) (has ip_order (map group_of more) group) socket (on_group group more) (has_socket-listed group more)
+
+all_by : (P : Ip → Type 0) (test : Bool) (group : Ip) (socket : Socket) (on : List Socket) → (test ≡ true → P group) → (not (is_empty on) ≡ true → P group)
+    → not (is_empty (cond test (socket ∷ on) on)) ≡ true → P group
+all_by P true group socket on here later some = here refl
+all_by P false group socket on here later some = later some
+
+-- what holds of the group of each socket holds of each group with a socket
+pub All-group : (P : Ip → Type 0) (group : Ip) (sockets : List Socket) → All (λ socket. P socket.group) sockets → has_socket group sockets ≡ true → P group
+All-group P group [] all some = absurd cc
+All-group P group (socket ∷ more) all some =
+    all_by P (same_group group socket.group) group socket (on_group group more)
+    (λ same. subst P (sym (same_group-exact group socket.group same)) (All-head (λ one. P one.group) socket more all))
+    (All-group P group more (All-tail (λ one. P one.group) socket more all)) some
+
+pub either_none : (first second : Bool) → (first || second) ≡ false → (first ≡ false) × (second ≡ false)
+either_none true second is = absurd cc
+either_none false second is = (refl, is)
+
+pub or_there : (first second : Bool) → second ≡ true → (first || second) ≡ true
+or_there true second some = refl
+or_there false second some = some
+
+-- ---- the groups that sockets were opened of
+
+-- a socket was opened of the group
+abbrev pub IsOpened : List AcceptedCall → Ip → Type 0
+IsOpened history group = has ip_order (groups_opened history) group ≡ true
+
+opened_later : (call : SocketCall) (history : List AcceptedCall) (group : Ip) → IsOpened history group → has ip_order (group_opened call ++ groups_opened history) group ≡ true
+opened_later call history group is = has-append ip_order (group_opened call) (groups_opened history) group ∙ or_there (has ip_order (group_opened call) group) _ is
+
+opened_by : (call : SocketCall) (history : List AcceptedCall) (sockets : List Socket) → All (λ socket. IsOpened history socket.group) sockets
+    → All (λ socket. has ip_order (group_opened call ++ groups_opened history) socket.group ≡ true) (sockets_after call sockets)
+opened_by (Open name group filter) history sockets all =
+    All-push (λ socket. has ip_order (group ∷ groups_opened history) socket.group ≡ true) sockets (record { name = name; group = group; filter = filter })
+    (All-weaker (λ socket. IsOpened history socket.group) (λ socket. has ip_order (group ∷ groups_opened history) socket.group ≡ true) (λ socket is. or_there (same_group socket.group group) _ is) sockets all)
+    (ap (λ (test : Bool). test || has ip_order (groups_opened history) group) (same_group-itself group))
+opened_by (Change name filter) history sockets all =
+    All-refiltered (λ socket. IsOpened history socket.group) name filter sockets
+    (All-weaker (λ socket. IsOpened history socket.group) (λ socket. has_name name socket ≡ true → IsOpened history socket.group) (λ socket is named. is) sockets all) all
+opened_by (Close name) history sockets all = All-filter (λ socket. not (has_name name socket)) (λ socket. IsOpened history socket.group) sockets all
+opened_by LeaveAll history sockets all = All-nil (λ socket. IsOpened history socket.group)
+
+all_opened : (history : List AcceptedCall) → All (λ socket. IsOpened history socket.group) (open_sockets history)
+all_opened [] = All-nil (λ socket. IsOpened [] socket.group)
+all_opened (newest ∷ older) = opened_by newest.call older (open_sockets older) (all_opened older)
+
+-- a group with a socket was opened
+pub opened-some : (history : List AcceptedCall) (group : Ip) → has_socket group (open_sockets history) ≡ true → IsOpened history group
+opened-some history group some = All-group (IsOpened history) group (open_sockets history) (all_opened history) some
+
+pub any_some : {X Y : Type 0} (p : Y → Bool) (f : X → Y) (xs : List X) → list_any p (map f xs) ≡ true → not (is_empty xs) ≡ true
+any_some p f [] some = absurd cc
+any_some p f (x ∷ xs) some = refl
+
+-- a group that is wanted has one
+pub wanted-some : (sockets : List Socket) (group : Ip) → wants_any (merged (filters_on group sockets)) ≡ true → has_socket group sockets ≡ true
+wanted-some sockets group wanted =
+    any_some wants_any (λ (socket : Socket). socket.filter) (on_group group sockets) (sym (wants_any-merged (filters_on group sockets)) ∙ wanted)
+
+-- and so was one that is wanted
+pub opened-wanted : (history : List AcceptedCall) (group : Ip) → is_wanted history group ≡ true → IsOpened history group
+opened-wanted history group wanted = opened-some history group (wanted-some (open_sockets history) group wanted)
+
+left_by : (wanted before : Bool) (moment left : ℕ) (earlier : Option ℕ) (P : Type 0) → (before ≡ true → P) → (earlier ≡ Some left → P) → cond wanted None (cond before (Some moment) earlier) ≡ Some left → P
+left_by true before moment left earlier P here later is = absurd cc
+left_by false true moment left earlier P here later is = here refl
+left_by false false moment left earlier P here later is = later is
+
+-- or that was left
+pub opened-left : (history : List AcceptedCall) (group : Ip) (left : ℕ) → left_at history group ≡ Some left → IsOpened history group
+opened-left [] group left is = absurd cc
+opened-left (newest ∷ older) group left is =
+    left_by (is_wanted (newest ∷ older) group) (is_wanted older group) newest.moment left (left_at older group) (IsOpened (newest ∷ older) group)
+    (λ wanted. opened_later newest.call older group (opened-wanted older group wanted)) (λ earlier. opened_later newest.call older group (opened-left older group left earlier)) is
+
+not_by : (test opened : Bool) → (test ≡ true → opened ≡ true) → opened ≡ false → test ≡ false
+not_by true opened is none = let yes = is refl in absurd cc
+not_by false opened is none = refl
+
+none_by : (left : Option ℕ) (opened : Bool) → ((moment : ℕ) → left ≡ Some moment → opened ≡ true) → opened ≡ false → left ≡ None
+none_by None opened is none = refl
+none_by (Some moment) opened is none = let yes = is moment refl in absurd cc
+
+-- a group of which no socket was opened has none
+pub unopened : (history : List AcceptedCall) (group : Ip) → has ip_order (groups_opened history) group ≡ false → has_socket group (open_sockets history) ≡ false
+unopened history group none = not_by (has_socket group (open_sockets history)) _ (opened-some history group) none
+
+-- it isn't wanted, and was never left
+pub unwanted : (history : List AcceptedCall) (group : Ip) → has ip_order (groups_opened history) group ≡ false → is_wanted history group ≡ false
+unwanted history group none = not_by (is_wanted history group) _ (opened-wanted history group) none
+
+pub never_left : (history : List AcceptedCall) (group : Ip) → has ip_order (groups_opened history) group ≡ false → left_at history group ≡ None
+never_left history group none = none_by (left_at history group) _ (opened-left history group) none
+
+-- ---- texts of groups
+
+both_have : (first second passes : Bool) → (passes ≡ true → first ≡ true) → (passes ≡ true → second ≡ true) → (first && passes) ≡ (second && passes)
 both_have true true passes first second = refl
 both_have false false passes first second = refl
 both_have true false true first second = let no = second refl in absurd cc
@@ -14,7 +126,7 @@ both_have false true true first second = let no = first refl in absurd cc
 both_have false true false first second = refl
 
 -- the groups that pass are the same ones
-same_passing : (test : Ip → Bool) (xs ys : List Ip) → IsAscending ip_order xs → IsAscending ip_order ys → ((group : Ip) → test group ≡ true → has ip_order xs group ≡ true)
+pub same_passing : (test : Ip → Bool) (xs ys : List Ip) → IsAscending ip_order xs → IsAscending ip_order ys → ((group : Ip) → test group ≡ true → has ip_order xs group ≡ true)
     → ((group : Ip) → test group ≡ true → has ip_order ys group ≡ true) → filter test xs ≡ filter test ys
 same_passing test xs ys first second in_first in_second =
     same_ascending ip_order-total ip_order-exact (filter test xs) (filter test ys) (IsAscending-filter ip_order test xs first) (IsAscending-filter ip_order test ys second)
@@ -43,171 +155,70 @@ flat_map-same f xs ys first second in_first in_second =
     (λ group some. listed_by (has ip_order ys group) (f group) (in_second group) some))
     ∙ flat_map-passing f ys
 
-sum_first : (f : Ip → ℕ) (test : Bool) (group : Ip) (passing : List Ip) → (test ≡ false → f group ≡ 0) → sum_by f (cond test (group ∷ passing) passing) ≡ f group + sum_by f passing
-sum_first f true group passing none = sum_by-cons f group passing
-sum_first f false group passing none = omega (arith, none refl)
+first_of : {X : Type 0} (test : Bool) (f : Ip → List X) (group : Ip) (passing : List Ip) → flat_map f (cond test (group ∷ passing) passing) ≡ cond test (f group) [] ++ flat_map f passing
+first_of true f group passing = refl
+first_of false f group passing = refl
 
-sum_by-passing : (f : Ip → ℕ) (test : Ip → Bool) (groups : List Ip) → ((group : Ip) → test group ≡ false → f group ≡ 0) → sum_by f (filter test groups) ≡ sum_by f groups
-sum_by-passing f test [] none = refl
-sum_by-passing f test (group ∷ more) none =
-    omega (arith, sum_first f (test group) group (filter test more) (none group), sum_by-passing f test more none, sum_by-cons f group more)
+-- of the groups that pass a test
+pub flat_map-filter : {X : Type 0} (f : Ip → List X) (test : Ip → Bool) (groups : List Ip) → flat_map f (filter test groups) ≡ flat_map (λ group. cond (test group) (f group) []) groups
+flat_map-filter f test [] = refl
+flat_map-filter f test (group ∷ more) =
+    first_of (test group) f group (filter test more) ∙ ap (λ later. cond (test group) (f group) [] ++ later) (flat_map-filter f test more)
 
-turned : (one other : Bool) → (one && other) ≡ (other && one)
-turned true true = refl
-turned true false = refl
-turned false true = refl
-turned false false = refl
+-- ---- sums over groups
 
--- the groups that both lists have
-in_both : (xs ys : List Ip) → IsAscending ip_order xs → IsAscending ip_order ys → filter (has ip_order ys) xs ≡ filter (has ip_order xs) ys
-in_both xs ys first second =
-    same_ascending ip_order-total ip_order-exact (filter (has ip_order ys) xs) (filter (has ip_order xs) ys) (IsAscending-filter ip_order (has ip_order ys) xs first)
-    (IsAscending-filter ip_order (has ip_order xs) ys second)
-    (λ group. has-filter ip_order-exact (has ip_order ys) xs group ∙ turned (has ip_order xs group) (has ip_order ys group) ∙ sym (has-filter ip_order-exact (has ip_order xs) ys group))
+abbrev DistinctGroups : List Ip → Type 0
+DistinctGroups groups = IsDistinct (eq_by_cmp ip_order) groups
 
--- a sum over groups is at most one of larger terms, over a list that has each group with a term there
-pub sum_by-within : (f g : Ip → ℕ) (xs ys : List Ip) → IsAscending ip_order xs → IsAscending ip_order ys → ((group : Ip) → f group ≤ g group)
-    → ((group : Ip) → has ip_order ys group ≡ false → g group ≡ 0) → sum_by f xs ≤ sum_by g ys
-sum_by-within f g xs ys first second less none =
-    let total = ap (sum_by g) (in_both xs ys first second) in
+none_has : (group : Ip) (groups : List Ip) → AllByRecursion (λ other. same_group group other ≡ false) groups → has ip_order groups group ≡ false
+none_has group [] apart = refl
+none_has group (next ∷ more) apart = ap (λ (test : Bool). test || has ip_order more group) apart.0 ∙ none_has group more apart.1
+
+one_by : (test rest : Bool) (f : Ip → ℕ) (group next : Ip) (sum : ℕ) → (test ≡ true → group ≡ next) → (test ≡ true → rest ≡ false) → sum ≡ cond rest (f group) 0
+    → cond test (f next) 0 + sum ≡ cond (test || rest) (f group) 0
+one_by true rest f group next sum same apart is =
+    let here = ap f (same refl) in
+    let none = ap {B = ℕ} (λ (test : Bool). cond test (f group) 0) (apart refl) in
+    omega (arith, here, none, is)
+one_by false rest f group next sum same apart is = omega (arith, is)
+
+-- the term of one group
+pub sum-one : (f : Ip → ℕ) (group : Ip) (groups : List Ip) → DistinctGroups groups → sum_by (λ other. cond (same_group group other) (f other) 0) groups ≡ cond (has ip_order groups group) (f group) 0
+sum-one f group [] distinct = refl
+sum-one f group (next ∷ more) distinct =
+    sum_by-cons (λ other. cond (same_group group other) (f other) 0) next more
+    ∙ one_by (same_group group next) (has ip_order more group) f group next (sum_by (λ other. cond (same_group group other) (f other) 0) more) (same_group-exact group next)
+    (λ same. ap (has ip_order more) (same_group-exact group next same) ∙ none_has next more (IsDistinct-head (eq_by_cmp ip_order) next more distinct))
+    (sum-one f group more (IsDistinct-tail (eq_by_cmp ip_order) next more distinct))
+
+pub sum-both : (f g h : Ip → ℕ) (groups : List Ip) → ((group : Ip) → h group ≡ f group + g group) → sum_by h groups ≡ sum_by f groups + sum_by g groups
+sum-both f g h [] is = refl
+sum-both f g h (group ∷ more) is =
+    omega (arith, is group, sum-both f g h more is, sum_by-cons f group more, sum_by-cons g group more, sum_by-cons h group more)
+
+sum-none : (groups : List Ip) → sum_by (λ group. 0) groups ≡ 0
+sum-none [] = refl
+sum-none (group ∷ more) = omega (arith, sum-none more, sum_by-cons (λ (one : Ip). 0) group more)
+
+pub same_group-turned : (one other : Ip) → same_group one other ≡ same_group other one
+same_group-turned one other = (eq_by_cmp_equiv ip_order-total).symm one other
+
+-- What the sockets of each group list comes to what the sockets list whose groups pass, where the groups
+-- are those of the sockets that pass.
+pub sum-listed : (test : Ip → Bool) (groups : List Ip) (sockets : List Socket) → DistinctGroups groups → All (λ group. has ip_order groups group ≡ test group) (map group_of sockets)
+    → sum_by (λ group. listed_on group sockets) groups ≡ listed test sockets
+sum-listed test groups [] distinct all = sum-none groups
+sum-listed test groups (socket ∷ more) distinct all =
+    let here : Ip → ℕ = λ group. cond (same_group group socket.group) (listing socket) 0 in
+    let turned : (group : Ip) → here group ≡ cond (same_group socket.group group) (listing socket) 0 = λ group. ap (λ (same : Bool). cond same (listing socket) 0) (same_group-turned group socket.group) in
+    let one : sum_by here groups ≡ cond (test socket.group) (listing socket) 0 =
+    (λ i. sum_by (λ group. turned group i) groups) ∙ sum-one (λ (other : Ip). listing socket) socket.group groups distinct
+    ∙ ap (λ (some : Bool). cond some (listing socket) 0) (All-head (λ group. has ip_order groups group ≡ test group) socket.group (map group_of more) all) in
     omega (
       arith,
-      sum_by-le-sum_by f g xs less,
-      sum_by-passing g (has ip_order ys) xs none,
-      total,
-      sum_by-filter_both (has ip_order xs) (λ group. not (has ip_order xs group)) (λ _. refl) g ys,
+      sum-both here (λ group. listed_on group more) (λ group. listed_on group (socket ∷ more)) groups
+          (λ group. sum_by-cons (λ (each : Socket). if same_group group each.group then length each.filter.sources else 0) socket more),
+      one,
+      sum-listed test groups more distinct (All-tail (λ group. has ip_order groups group ≡ test group) socket.group (map group_of more) all),
+      sum_by-cons (λ (each : Socket). if test each.group then length each.filter.sources else 0) socket more,
     )
-
--- a group that comes before others is none of them
-same_above : (order : Ordering) → order ≡ Less → is_eq order ≡ false
-same_above Less is = refl
-same_above Equal is = cc
-same_above Greater is = cc
-
-same_below : (order : Ordering) → order ≡ Less → is_eq (ordering_reverse order) ≡ false
-same_below Less is = refl
-same_below Equal is = cc
-same_below Greater is = cc
-
--- the group comes before all of these
-abbrev pub IsBefore : Ip → List Ip → Type 0
-IsBefore group groups = AllByRecursion (λ other. ip_order group other ≡ Less) groups
-
-pub has-before : (group : Ip) (groups : List Ip) → IsBefore group groups → has ip_order groups group ≡ false
-has-before group [] before = refl
-has-before group (next ∷ more) before =
-    ap (λ (test : Bool). test || has ip_order more group) (same_above (ip_order group next) before.0) ∙ has-before group more before.1
-
--- the sum without the term of one group
-abbrev pub besides : Ip → (Ip → ℕ) → Ip → ℕ
-besides group f other = cond (same_group group other) 0 (f other)
-
-besides_before : (group : Ip) (f : Ip → ℕ) (groups : List Ip) → IsBefore group groups → sum_by (besides group f) groups ≡ sum_by f groups
-besides_before group f [] before = refl
-besides_before group f (next ∷ more) before =
-    let here : besides group f next ≡ f next = ap (λ (test : Bool). cond test 0 (f next)) (same_above (ip_order group next) before.0) in
-    omega (arith, here, besides_before group f more before.1, sum_by-cons f next more, sum_by-cons (besides group f) next more)
-
-split_first : (test listed : Bool) (group next : Ip) (f : Ip → ℕ) (more : List Ip) → (test ≡ true → group ≡ next) → IsBefore next more
-    → (listed ≡ true → sum_by f more ≡ f group + sum_by (besides group f) more) → (test || listed) ≡ true → same_group group next ≡ test
-    → f next + sum_by f more ≡ f group + (cond test 0 (f next) + sum_by (besides group f) more)
-split_first true listed group next f more exact before rest some is =
-    let here = exact refl in
-    let term = ap f here in
-    let others = ap (λ (at : Ip). sum_by (besides at f) more) here in
-    omega (arith, term, others, besides_before next f more before)
-split_first false listed group next f more exact before rest some is = omega (arith, rest some)
-
--- the term of a group, and the others
-pub sum_by-split : (group : Ip) (f : Ip → ℕ) (groups : List Ip) → IsAscending ip_order groups → has ip_order groups group ≡ true → sum_by f groups ≡ f group + sum_by (besides group f) groups
-sum_by-split group f [] ascends some = absurd cc
-sum_by-split group f (next ∷ more) ascends some =
-    let rest = sum_by-split group f more (sorted_tail ip_order next more ascends) in
-    let here = split_first (same_group group next) (has ip_order more group) group next f more (same_group-exact group next) (sorted_head ip_order next more ascends) rest some refl in
-    omega (arith, here, sum_by-cons f next more, sum_by-cons (besides group f) next more)
-
-tally_by : (test : Bool) (group : Ip) (tally : Tally) (found : Option (Ip × Tally))
-    → unwrap_or (option_map (λ entry. entry.1) (cond test (Some (group, tally)) found)) blank ≡ cond test tally (unwrap_or (option_map (λ entry. entry.1) found) blank)
-tally_by true group tally found = refl
-tally_by false group tally found = refl
-
-pub tally_at-cons : (entry : Ip × Tally) (rest : List (Ip × Tally)) (group : Ip) → tally_at (entry ∷ rest) group ≡ cond (same_group group entry.0) entry.1 (tally_at rest group)
-tally_at-cons entry rest group = tally_by (same_group group entry.0) entry.0 entry.1 (find (λ one. same_group group one.0) rest)
-
-absent_first : (test listed : Bool) (tally rest : Tally) → (listed ≡ false → rest ≡ blank) → (test || listed) ≡ false → cond test tally rest ≡ blank
-absent_first true listed tally rest none is = absurd cc
-absent_first false listed tally rest none is = none is
-
--- a group without an entry has a blank tally
-pub tally_at-absent : (tallies : List (Ip × Tally)) (group : Ip) → has ip_order (keys_of tallies) group ≡ false → tally_at tallies group ≡ blank
-tally_at-absent [] group absent = refl
-tally_at-absent (entry ∷ rest) group absent =
-    tally_at-cons entry rest group ∙ absent_first (same_group group entry.0) (has ip_order (keys_of rest) group) entry.1 (tally_at rest group) (tally_at-absent rest group) absent
-
--- each entry has the tally of its group
-abbrev pub AreAt : (Ip → Tally) → List (Ip × Tally) → Type 0
-AreAt tally tallies = AllByRecursion (λ entry. tally entry.0 ≡ entry.1) tallies
-
-at_later : (first : Ip × Tally) (before : List (Ip × Tally)) (later : List (Ip × Tally)) → IsBefore first.0 (keys_of later) → AreAt (tally_at before) later → AreAt (tally_at (first ∷ before)) later
-at_later first before [] below are = tt
-at_later first before (entry ∷ rest) below are =
-    let apart : same_group entry.0 first.0 ≡ false = ap is_eq (ip_order-total.antisymm entry.0 first.0) ∙ same_below (ip_order first.0 entry.0) below.0 in
-    (tally_at-cons first before entry.0 ∙ ap (λ (test : Bool). cond test first.1 (tally_at before entry.0)) apart ∙ are.0, at_later first before rest below.1 are.1)
-
-AreAt-ascending : (tallies : List (Ip × Tally)) → IsAscending ip_order (keys_of tallies) → AreAt (tally_at tallies) tallies
-AreAt-ascending [] ordered = tt
-AreAt-ascending (entry ∷ rest) ordered =
-    let own : tally_at (entry ∷ rest) entry.0 ≡ entry.1 = tally_at-cons entry rest entry.0 ∙ ap (λ (test : Bool). cond test entry.1 (tally_at rest entry.0)) (same_group-itself entry.0) in
-    (own, at_later entry rest rest (sorted_head ip_order entry.0 (keys_of rest) ordered) (AreAt-ascending rest (sorted_tail ip_order entry.0 (keys_of rest) ordered)))
-
-pub AreAt-ordered : (tallies : List (Ip × Tally)) → AreNeeded tallies → AreAt (tally_at tallies) tallies
-AreAt-ordered tallies needed = AreAt-ascending tallies needed.ordered
-
-sum_by-at : (f : Ip × Tally → ℕ) (tally : Ip → Tally) (tallies : List (Ip × Tally)) → AreAt tally tallies → sum_by f tallies ≡ sum_by (λ group. f (group, tally group)) (keys_of tallies)
-sum_by-at f tally [] are = refl
-sum_by-at f tally (entry ∷ rest) are =
-    let here : f (entry.0, tally entry.0) ≡ f entry = ap (λ (kept : Tally). f (entry.0, kept)) are.0 in
-    omega (arith, here, sum_by-at f tally rest are.1, sum_by-cons f entry rest, sum_by-cons (λ group. f (group, tally group)) entry.0 (keys_of rest))
-
--- a sum over tallies by group
-pub sum_by-keys : (f : Ip × Tally → ℕ) (tallies : List (Ip × Tally)) → AreNeeded tallies → sum_by f tallies ≡ sum_by (λ group. f (group, tally_at tallies group)) (keys_of tallies)
-sum_by-keys f tallies ordered = sum_by-at f (tally_at tallies) tallies (AreAt-ordered tallies ordered)
-
-flat_map-at : {X : Type 0} (f : Ip × Tally → List X) (tally : Ip → Tally) (tallies : List (Ip × Tally)) → AreAt tally tallies
-    → flat_map f tallies ≡ flat_map (λ group. f (group, tally group)) (keys_of tallies)
-flat_map-at f tally [] are = refl
-flat_map-at f tally (entry ∷ rest) are =
-    ap (λ (kept : Tally). f (entry.0, kept) ++ flat_map f rest) (sym are.0) ∙ ap (λ later. f (entry.0, tally entry.0) ++ later) (flat_map-at f tally rest are.1)
-
--- what is said of tallies by group
-pub flat_map-keys : {X : Type 0} (f : Ip × Tally → List X) (tallies : List (Ip × Tally)) → AreNeeded tallies → flat_map f tallies ≡ flat_map (λ group. f (group, tally_at tallies group)) (keys_of tallies)
-flat_map-keys f tallies ordered = flat_map-at f (tally_at tallies) tallies (AreAt-ordered tallies ordered)
-
-any-at : (p : Ip × Tally → Bool) (tally : Ip → Tally) (tallies : List (Ip × Tally)) → AreAt tally tallies → list_any p tallies ≡ list_any (λ group. p (group, tally group)) (keys_of tallies)
-any-at p tally [] are = refl
-any-at p tally (entry ∷ rest) are =
-    ap (λ (kept : Tally). p (entry.0, kept) || list_any p rest) (sym are.0) ∙ ap (λ (later : Bool). p (entry.0, tally entry.0) || later) (any-at p tally rest are.1)
-
--- a test of some tally by group
-pub list_any-keys : (p : Ip × Tally → Bool) (tallies : List (Ip × Tally)) → AreNeeded tallies → list_any p tallies ≡ list_any (λ group. p (group, tally_at tallies group)) (keys_of tallies)
-list_any-keys p tallies ordered = any-at p (tally_at tallies) tallies (AreAt-ordered tallies ordered)
-
-left_first : (test : Bool) (group : Ip) (left : Option ℕ) (rest : List Farewell) (at : Ip) (tally : Tally) (later : Tally) → same_group at group ≡ test → tally.left ≡ left → left_in rest at ≡ later.left
-    → (test ≡ true → later ≡ blank) → left_in (cons_option (option_map (λ moment. record { group = group; left = moment }) left) rest) at ≡ (cond test tally later).left
-left_first true group None rest at tally later same is after none = after ∙ ap (λ (one : Tally). one.left) (none refl) ∙ sym is
-left_first false group None rest at tally later same is after none = after
-left_first true group (Some moment) rest at tally later same is after none = rw same (sym is)
-left_first false group (Some moment) rest at tally later same is after none = rw same after
-
-left_in-ascending : (tallies : List (Ip × Tally)) (group : Ip) → IsAscending ip_order (keys_of tallies) → left_in (farewells_in tallies) group ≡ (tally_at tallies group).left
-left_in-ascending [] group ordered = refl
-left_in-ascending (entry ∷ rest) group ordered =
-    let absent : same_group group entry.0 ≡ true → tally_at rest group ≡ blank =
-    λ same. ap (tally_at rest) (same_group-exact group entry.0 same) ∙ tally_at-absent rest entry.0 (has-before entry.0 (keys_of rest) (sorted_head ip_order entry.0 (keys_of rest) ordered)) in
-    left_first (same_group group entry.0) entry.0 entry.1.left (farewells_in rest) group entry.1 (tally_at rest group) refl refl
-    (left_in-ascending rest group (sorted_tail ip_order entry.0 (keys_of rest) ordered)) absent
-    ∙ ap (λ (one : Tally). one.left) (sym (tally_at-cons entry rest group))
-
--- the farewells are those of the tallies
-pub left_in-farewells : (tallies : List (Ip × Tally)) (group : Ip) → AreNeeded tallies → left_in (farewells_in tallies) group ≡ (tally_at tallies group).left
-left_in-farewells tallies group needed = left_in-ascending tallies group needed.ordered

@@ -1,270 +1,188 @@
 -- What each call of the sockets leaves, by what its private calls answer.
-use Rattle.std.{proofs.{Common.{◌≡◌, ℕ, ◌+◌, ◌-◌, ◌≤◌, ltb, max, Bool, true, false, cond, is_some, List, [], ◌∷◌, ◌++◌, length, Option, Some, None, refl, sym, ap, subst, ◌∙◌, arith}, lemmas.{Bool.{leb-true, lt-ltb}, List.Elements.{All-cons, All-nil}}}, specs.{List.{All, cons_option}, Option.{option_map}}}
-use Rattle.amt_values.specs.{Group.{is_forwardable}, declared.address.Ip.{Ip}, Conditions.{first_holding}}
+use Rattle.std.{proofs.{Common.{◌≡◌, ℕ, ◌+◌, ◌≤◌, max, Bool, true, false, ◌||◌, cond, is_some, List, [], ◌∷◌, length, Option, Some, None, IsSome, refl, sym, ap, subst, ◌∙◌, arith}, lemmas.{Bool.{leb-true}, List.Elements.{All-nil}}}, specs.{List.{All, count_by}, Map.{keys_of}, Option.{option_map}}}
+use Rattle.amt_values.specs.{declared.address.Ip.{Ip}, Order.{ip_order}, Ascending.{IsAscending}}
 use Rattle.source_filter.specs.Filter.{FilterValue}
-use Rattle.socket_merge.specs.History.{AcceptedCall, Change, Close, LeaveAll, Open, Socket, latest, open_sockets, socket_named, sockets_after, with_call}
-use Rattle.socket_merge.specs.{FullReport.{longest_farewell}, Interface.{left_at}}
-use Rattle.socket_merge.specs.Kept.{AreNeeded, HasTallies, HasTally, IsConsistent, farewells_in, octets_besides, raw_octets, share_of, tally_at, tally_changed, tally_fresh, tally_left, tally_with, tally_without}
-use Rattle.socket_merge.specs.Refusal.{family_of, is_open, may_be_due, refusal_of}
-use Rattle.socket_merge.specs.{Sockets.{AreOfGroup, Farewell, HasNoOldFarewell, IsKept, SocketsHold, SocketsValue}, declared.fault.SocketFault.{SocketFault}}
-use Rattle.socket_merge.{specs.declared.stored.{Share.{Share}, Tally.{Tally}}, proofs.{Amounts.{some_is}, ByGroup.{AreAt, AreAt-ordered, left_in-farewells}}}
-use Rattle.socket_merge.proofs.Consistent.{IsConsistent-closed, IsConsistent-fresh, IsConsistent-left, IsConsistent-replaced, IsFit-changed, IsFit-opened}
-use Rattle.socket_merge.proofs.{Counted.{AreTallied, Counts-of, CountsOne-of, IsNamed, others_changed, others_opened, replaced}, HoldsAfter.{Stands, Stands-changed, Stands-closed, Stands-fresh, Stands-left, Stands-opened, Stands-same}, RawOctets.{octets_besides-le}, Refused.{IsWithin-of, limits_of, refusal-changed, refusal-opened}}
+use Rattle.socket_merge.specs.{FullReport.{longest_farewell}, History.{AcceptedCall, Change, Close, LeaveAll, Open, Socket, SocketCall, latest, open_sockets, socket_named, sockets_after, with_call}, Interface.{filters_on, is_wanted, left_at, on_group, same_group}, Kept.{AreMade, HasSlot, IsSound, farewells_in, has_socket, kept_at, left_after, left_fresh, listed_in, listed_on, places_besides, raw_octets, slot_at, slot_fresh, slot_left, slot_of, slots_of, some_wants}, Refusal.{IsWithinLimits, family_of, has_place, may_be_due, raw_sources, refusal_of}, Sockets.{Farewell, HasNoOldFarewell, IsKept, KeepsFarewells, SocketsHold, SocketsValue, left_in}, declared.fault.SocketFault.{SocketFault}}
+use Rattle.socket_merge.proofs.{Amounts.{HasName, HasName-of, has_name, kept-changed, kept-closed, some_is}, HoldsAfter.{AreFollowed, AreFollowed-one, Stands, Stands-fresh, Stands-next, farewell_stays, may_be_due-kept, read_at}, Lawful.{AreOthersKept, IsLawful-next, IsLawful-none, MayCall, kept-opened}, RawOctets.{IsFew-of, raw-is, raw_groups, raw_sources-listed, same-raw}, Refused.{IsCounted-of, IsKeptBy, limit_by, places-few, refusal-all, refusal-changed, refusal-closed, refusal-opened, some_on}, Slots.{AreSlots, AreSlots-back, AreSlots-fresh, AreSlots-left, AreSlots-one, back-of, each_farewell, kept-is, left_in-is}, Wanted.{wants_any-merged}}
 
 -- what contracts see of sockets that are kept so
-abbrev pub value_of : ℕ → List Socket → List (Ip × Tally) → SocketsValue
-value_of moment sockets tallies = record { moment = moment; sockets = sockets; farewells = farewells_in tallies }
+abbrev pub value_of : ℕ → List Socket → List (Ip × Option ℕ) → SocketsValue
+value_of moment sockets slots = record { moment = moment; sockets = sockets; farewells = farewells_in slots }
 
--- tallies that are consistent stand for each history that the sockets stand for
-pub Stands-of : (moment : ℕ) (sockets : List Socket) (tallies : List (Ip × Tally)) (history : List AcceptedCall) → IsConsistent moment sockets tallies
-    → SocketsHold (value_of moment sockets tallies) history → Stands history (tally_at tallies)
-Stands-of moment sockets tallies history consistent holds = record {
-  tallied = subst (λ (all : List Socket). AreTallied all (tally_at tallies)) holds.sockets consistent.tallied;
-  kept = λ group. subst (IsKept history group) (left_in-farewells tallies group consistent.needed) (holds.farewells group);
+-- what is kept, of one history that it stands for
+pub record KeptFor (moment : ℕ) (sockets : List Socket) (slots : List (Ip × Option ℕ)) (history : List AcceptedCall) : Type 0 where
+  pub now : moment ≡ latest history
+  pub same : sockets ≡ open_sockets history
+  pub are : AreSlots sockets slots (left_in (farewells_in slots))
+  pub stands : Stands history (left_in (farewells_in slots))
+  pub apart : (name : List ℕ) (socket : Socket) → socket_named name sockets ≡ Some socket → HasName name socket sockets
+  pub limits : IsWithinLimits history
+  pub kept : IsKeptBy history slots
+
+has_place-by : (moment : ℕ) (sockets : List Socket) (slots : List (Ip × Option ℕ)) (history : List AcceptedCall) → SocketsHold (value_of moment sockets slots) history → (group : Ip)
+    → has_place history group ≡ (has_socket group sockets || may_be_due moment (left_in (farewells_in slots) group))
+has_place-by moment sockets slots history holds group =
+    ap (λ (all : List Socket). has_socket group all || may_be_due (latest history) (left_at history group)) (sym holds.sockets)
+    ∙ ap (λ (due : Bool). has_socket group sockets || due) (sym (may_be_due-kept history group (left_in (farewells_in slots) group) (latest history) (holds.farewells group) (omega arith)))
+    ∙ ap (λ (at : ℕ). has_socket group sockets || may_be_due at (left_in (farewells_in slots) group)) (sym holds.moment)
+
+-- the limits are kept in each history that the sockets stand for, where they are in one
+limits-same : (moment : ℕ) (sockets : List Socket) (slots : List (Ip × Option ℕ)) (first second : List AcceptedCall) → SocketsHold (value_of moment sockets slots) first
+    → SocketsHold (value_of moment sockets slots) second → IsWithinLimits first → IsWithinLimits second
+limits-same moment sockets slots first second one other limits =
+    let same : open_sockets first ≡ open_sockets second = sym one.sockets ∙ other.sockets in
+    record {
+      sources = λ group. subst (λ (all : List Socket). length (raw_sources group all) ≤ 32) same (limits.sources group);
+      octets = λ family.
+          let groups = same-raw family first second (λ group. has_place-by moment sockets slots first one group ∙ sym (has_place-by moment sockets slots second other group)) in
+          let places = ap length groups in
+          let listed = ap (listed_in family) same in
+          let octets = raw-is family first ∙ ap (λ (number : ℕ). raw_octets family number (listed_in family (open_sockets first))) places
+          ∙ ap (raw_octets family (length (raw_groups family second))) listed ∙ sym (raw-is family second) in
+          omega (arith, octets, limits.octets family);
+    }
+
+pub keeps : (moment : ℕ) (sockets : List Socket) (slots : List (Ip × Option ℕ)) (history : List AcceptedCall) → IsSound moment sockets slots → SocketsHold (value_of moment sockets slots) history
+    → KeptFor moment sockets slots history
+keeps moment sockets slots history sound holds = record {
+  now = holds.moment;
+  same = holds.sockets;
+  are = AreSlots-back sockets slots sound.back;
+  stands = holds.farewells;
+  apart = λ name socket found. HasName-of name socket sockets (subst (λ (all : List Socket). count_by (has_name name) all ≤ 1) (sym sound.holds.sockets) (sound.lawful.apart name)) found;
+  limits = limits-same moment sockets slots sound.history history sound.holds holds sound.lawful.limits;
+  kept = record { back = subst (λ (all : List Socket). slots_of all (farewells_in slots) ≡ slots) holds.sockets sound.back; stands = holds.farewells };
 }
 
-each_by : (P : Farewell → Type 0) (left : Option ℕ) (group : Ip) (rest : List Farewell) → ((moment : ℕ) → left ≡ Some moment → P (record { group = group; left = moment })) → All P rest
-    → All P (cons_option (option_map (λ moment. record { group = group; left = moment }) left) rest)
-each_by P None group rest one all = all
-each_by P (Some moment) group rest one all = All-cons P (record { group = group; left = moment }) rest (one moment refl) all
+-- what is kept after a call
+pub record IsAfter (newest : AcceptedCall) (history : List AcceptedCall) (moment : ℕ) (sockets : List Socket) (slots new : List (Ip × Option ℕ)) (left : Ip → Option ℕ) : Type 0 where
+  pub now : moment ≡ newest.moment
+  pub same : sockets ≡ sockets_after newest.call (open_sockets history)
+  pub are : AreSlots sockets new left
+  pub stands : Stands (newest ∷ history) left
 
--- what holds of the farewell of each group holds of each farewell of the tallies
-each_farewell : (P : Farewell → Type 0) (tally : Ip → Tally) (tallies : List (Ip × Tally)) → ((group : Ip) (moment : ℕ) → (tally group).left ≡ Some moment → P (record { group = group; left = moment }))
-    → AreAt tally tallies → All P (farewells_in tallies)
-each_farewell P tally [] one are = All-nil P
-each_farewell P tally (entry ∷ rest) one are =
-    each_by P entry.1.left entry.0 (farewells_in rest) (λ moment is. one entry.0 moment (ap (λ (kept : Tally). kept.left) are.0 ∙ is)) (each_farewell P tally rest one are.1)
-
--- and the other way round
-pub SocketsHold-of : (moment : ℕ) (sockets : List Socket) (tallies : List (Ip × Tally)) (history : List AcceptedCall) → AreNeeded tallies → moment ≡ latest history → sockets ≡ open_sockets history
-    → Stands history (tally_at tallies) → SocketsHold (value_of moment sockets tallies) history
-SocketsHold-of moment sockets tallies history ordered now open_now stands = record {
-  moment = now;
-  sockets = open_now;
-  farewells = λ group. subst (IsKept history group) (sym (left_in-farewells tallies group ordered)) (stands.kept group);
-  each = each_farewell (λ one. left_at history one.group ≡ Some one.left) (tally_at tallies) tallies (λ group moment is. (stands.kept group).of_history moment is) (AreAt-ordered tallies ordered);
+pub SocketsHold-after : (newest : AcceptedCall) (history : List AcceptedCall) (moment : ℕ) (sockets : List Socket) (slots new : List (Ip × Option ℕ)) (left : Ip → Option ℕ)
+    → IsAfter newest history moment sockets slots new left → SocketsHold (value_of moment sockets new) (newest ∷ history)
+SocketsHold-after newest history moment sockets slots new left is = record {
+  moment = is.now;
+  sockets = is.same;
+  farewells = λ group. subst (IsKept (newest ∷ history) group) (sym (left_in-is sockets new left is.are group)) (is.stands group);
+  each = each_farewell (λ one. left_at (newest ∷ history) one.group ≡ Some one.left) sockets new left is.are (λ group at same. (is.stands group).of_history at same);
 }
 
--- the socket that was found, by what is told of it
-pub record IsFound (name : List ℕ) (sockets : List Socket) (told : Ip × Share) : Type 0 where
-  pub socket : Socket
-  pub found : socket_named name sockets ≡ Some socket
-  pub is : told ≡ (socket.group, share_of socket.filter)
+pub IsSound-after : (at : ℕ) (call : SocketCall) (moment later : ℕ) (sockets after : List Socket) (slots new : List (Ip × Option ℕ)) → IsSound moment sockets slots
+    → ((history : List AcceptedCall) → SocketsHold (value_of moment sockets slots) history → SocketsHold (value_of later after new) (with_call at call history))
+    → slots_of after (farewells_in new) ≡ new → MayCall call sockets
+    → ((history : List AcceptedCall) → SocketsHold (value_of moment sockets slots) history → refusal_of at call history ≡ None) → IsSound later after new
+IsSound-after at call moment later sockets after slots new sound holds back may free = record {
+  history = with_call at call sound.history;
+  holds = holds sound.history sound.holds;
+  lawful = IsLawful-next at call sound.history sound.lawful (subst (MayCall call) sound.holds.sockets may) (free sound.history sound.holds);
+  back = back;
+}
+
+-- what is sound is within the limits
+pub within_limits : (moment : ℕ) (sockets : List Socket) (slots : List (Ip × Option ℕ)) → IsSound moment sockets slots → (history : List AcceptedCall) → SocketsHold (value_of moment sockets slots) history
+    → IsWithinLimits history
+within_limits moment sockets slots sound history holds = (keeps moment sockets slots history sound holds).limits
+
+-- ---- the socket of a name
 
 -- what is told of a socket
-abbrev pub told_of : Socket → Ip × Share
-told_of socket = (socket.group, share_of socket.filter)
+abbrev pub told_of : Socket → Ip × ℕ
+told_of socket = (socket.group, length socket.filter.sources)
 
-found_by : (name : List ℕ) (sockets : List Socket) (found : Option Socket) (told : Ip × Share) → socket_named name sockets ≡ found → Some told ≡ option_map told_of found → IsFound name sockets told
+-- the socket that was found, by what is told of it
+pub record IsFound (name : List ℕ) (sockets : List Socket) (told : Ip × ℕ) : Type 0 where
+  pub socket : Socket
+  pub found : socket_named name sockets ≡ Some socket
+  pub is : told ≡ told_of socket
+
+found_by : (name : List ℕ) (sockets : List Socket) (found : Option Socket) (told : Ip × ℕ) → socket_named name sockets ≡ found → Some told ≡ option_map told_of found → IsFound name sockets told
 found_by name sockets None told is same = absurd cc
 found_by name sockets (Some socket) told is same = record { socket = socket; found = is; is = some_is told (told_of socket) same }
 
-pub IsFound-of : (name : List ℕ) (sockets : List Socket) (told : Ip × Share) → Some told ≡ option_map told_of (socket_named name sockets) → IsFound name sockets told
+pub IsFound-of : (name : List ℕ) (sockets : List Socket) (told : Ip × ℕ) → Some told ≡ option_map told_of (socket_named name sockets) → IsFound name sockets told
 IsFound-of name sockets told same = found_by name sockets (socket_named name sockets) told refl same
 
-pub IsNamed-of : (moment : ℕ) (name : List ℕ) (sockets : List Socket) (tallies : List (Ip × Tally)) (socket : Socket) (history : List AcceptedCall) → IsConsistent moment sockets tallies
-    → sockets ≡ open_sockets history → socket_named name sockets ≡ Some socket → IsNamed name socket (open_sockets history)
-IsNamed-of moment name sockets tallies socket history consistent same found =
-    subst (λ (all : List Socket). IsNamed name socket all) same (record { apart = consistent.apart; found = found })
-
--- what closing a socket leaves
-pub record IsClosed (later : ℕ) (name : List ℕ) (sockets left : List Socket) (told : Ip × Share) (before after : List (Ip × Tally)) : Type 0 where
-  pub rest : left ≡ sockets_after (Close name) sockets
-  pub tally : HasTally told.0 (tally_without later told.1 (tally_at before told.0)) before after
-  pub ordered : AreNeeded after
-
-pub closed_tally : (later : ℕ) (told : Ip × Share) (socket : Socket) (before after : List (Ip × Tally)) → told ≡ told_of socket → HasTally told.0 (tally_without later told.1 (tally_at before told.0)) before after
-    → HasTally socket.group (tally_without later (share_of socket.filter) (tally_at before socket.group)) before after
-closed_tally later told socket before after is tally =
-    subst (λ (pair : Ip × Share). HasTally pair.0 (tally_without later pair.1 (tally_at before pair.0)) before after) is tally
-
-pub consistent_closed : (moment later : ℕ) (name : List ℕ) (sockets left : List Socket) (told : Ip × Share) (before after : List (Ip × Tally)) → IsConsistent moment sockets before → moment ≤ later
-    → Some told ≡ option_map told_of (socket_named name sockets) → IsClosed later name sockets left told before after → IsConsistent later left after
-consistent_closed moment later name sockets left told before after consistent onward same closed =
-    let found = IsFound-of name sockets told same in
-    subst (λ (all : List Socket). IsConsistent later all after) (sym closed.rest)
-    (IsConsistent-closed moment later name found.socket sockets before after consistent onward found.found closed.ordered (closed_tally later told found.socket before after found.is closed.tally))
-
-pub holds_closed : (moment later at : ℕ) (name : List ℕ) (sockets left : List Socket) (told : Ip × Share) (before after : List (Ip × Tally)) (history : List AcceptedCall)
-    → IsConsistent moment sockets before → later ≡ max moment at → Some told ≡ option_map told_of (socket_named name sockets) → IsClosed later name sockets left told before after
-    → SocketsHold (value_of moment sockets before) history → SocketsHold (value_of later left after) (with_call at (Close name) history)
-holds_closed moment later at name sockets left told before after history consistent now same closed holds =
-    let found = IsFound-of name sockets told same in
-    let socket = found.socket in
-    let read : later ≡ max (latest history) at = now ∙ ap (λ (one : ℕ). max one at) holds.moment in
-    let tally = closed_tally later told socket before after found.is closed.tally in
-    let stands = Stands-closed history (tally_at before) at name socket (Stands-of moment sockets before history consistent holds)
-    (IsNamed-of moment name sockets before socket history consistent holds.sockets found.found) in
-    SocketsHold-of later left after (with_call at (Close name) history) closed.ordered read (closed.rest ∙ ap (sockets_after (Close name)) holds.sockets)
-    (Stands-same (with_call at (Close name) history) (replaced socket.group (tally_without (max (latest history) at) (share_of socket.filter) (tally_at before socket.group)) (tally_at before)) (tally_at after)
-    (subst (λ (one : ℕ). HasTally socket.group (tally_without one (share_of socket.filter) (tally_at before socket.group)) before after) read tally) stands)
-
--- what leaving every group leaves
-pub record IsLeft (later : ℕ) (left : List Socket) (before after : List (Ip × Tally)) : Type 0 where
-  pub rest : left ≡ []
-  pub tallies : HasTallies (tally_left later) before after
-  pub ordered : AreNeeded after
-
-pub consistent_left : (moment later : ℕ) (sockets left : List Socket) (before after : List (Ip × Tally)) → IsConsistent moment sockets before → moment ≤ later → IsLeft later left before after
-    → IsConsistent later left after
-consistent_left moment later sockets left before after consistent onward gone =
-    subst (λ (all : List Socket). IsConsistent later all after) (sym gone.rest) (IsConsistent-left moment later sockets before after consistent onward gone.ordered gone.tallies)
-
-pub holds_left : (moment later at : ℕ) (sockets left : List Socket) (before after : List (Ip × Tally)) (history : List AcceptedCall) → IsConsistent moment sockets before → later ≡ max moment at
-    → IsLeft later left before after → SocketsHold (value_of moment sockets before) history → SocketsHold (value_of later left after) (with_call at LeaveAll history)
-holds_left moment later at sockets left before after history consistent now gone holds =
-    let read : later ≡ max (latest history) at = now ∙ ap (λ (one : ℕ). max one at) holds.moment in
-    SocketsHold-of later left after (with_call at LeaveAll history) gone.ordered read gone.rest
-    (Stands-same (with_call at LeaveAll history) (λ group. tally_left (max (latest history) at) (tally_at before group)) (tally_at after)
-    (subst (λ (one : ℕ). HasTallies (tally_left one) before after) read gone.tallies)
-    (Stands-left history (tally_at before) at (Stands-of moment sockets before history consistent holds)))
-
-some_told : (found : Option Socket) → is_some (option_map told_of found) ≡ true → is_some found ≡ true
-some_told None some = absurd cc
-some_told (Some socket) some = refl
-
-none_some : (found : Option Socket) → is_some (option_map told_of found) ≡ false → found ≡ None
-none_some None none = refl
-none_some (Some socket) none = absurd cc
-
--- what another filter of a socket leaves
-pub record IsChanged (later : ℕ) (name : List ℕ) (filter : FilterValue) (sockets left : List Socket) (told : Ip × Share) (before after : List (Ip × Tally)) : Type 0 where
-  pub rest : left ≡ sockets_after (Change name filter) sockets
-  pub tally : HasTally told.0 (tally_changed later told.1 (share_of filter) (tally_at before told.0)) before after
-  pub ordered : AreNeeded after
-
-pub changed_tally : (later : ℕ) (filter : FilterValue) (told : Ip × Share) (socket : Socket) (before after : List (Ip × Tally)) → told ≡ told_of socket
-    → HasTally told.0 (tally_changed later told.1 (share_of filter) (tally_at before told.0)) before after
-    → HasTally socket.group (tally_changed later (share_of socket.filter) (share_of filter) (tally_at before socket.group)) before after
-changed_tally later filter told socket before after is tally =
-    subst (λ (pair : Ip × Share). HasTally pair.0 (tally_changed later pair.1 (share_of filter) (tally_at before pair.0)) before after) is tally
-
--- the limits that another filter passes, by what is told of its socket
-abbrev pub limit_changed : ℕ → FilterValue → Ip × Share → List (Ip × Tally) → Option SocketFault
-limit_changed later filter told tallies = first_holding (limits_of later told.0 tallies ((tally_at tallies told.0).sources - told.1.sources + length filter.sources))
-
-pub consistent_changed : (moment later : ℕ) (name : List ℕ) (filter : FilterValue) (sockets left : List Socket) (told : Ip × Share) (before after : List (Ip × Tally)) → IsConsistent moment sockets before
-    → moment ≤ later → Some told ≡ option_map told_of (socket_named name sockets) → limit_changed later filter told before ≡ None
-    → ((socket : Socket) → socket_named name sockets ≡ Some socket → AreOfGroup socket.group filter) → IsChanged later name filter sockets left told before after → IsConsistent later left after
-consistent_changed moment later name filter sockets left told before after consistent onward same none family changed =
-    let found = IsFound-of name sockets told same in
-    let socket = found.socket in
-    let group = socket.group in
-    let sources = (tally_at before group).sources - length socket.filter.sources + length filter.sources in
-    let within = IsWithin-of sources (octets_besides (family_of group) later group before + raw_octets (family_of group) sources)
-    (subst (λ (pair : Ip × Share). limit_changed later filter pair before ≡ None) found.is none) in
-    let named : IsNamed name socket sockets = record { apart = consistent.apart; found = found.found } in
-    subst (λ (all : List Socket). IsConsistent later all after) (sym changed.rest)
-    (IsConsistent-replaced moment later group (tally_changed later (share_of socket.filter) (share_of filter) (tally_at before group)) sockets (sockets_after (Change name filter) sockets) before after consistent onward
-    changed.ordered (changed_tally later filter told socket before after found.is changed.tally) (others_changed name filter socket sockets named)
-    (IsFit-changed moment later name filter socket sockets before consistent found.found family within.few within.short))
-
-pub holds_changed : (moment later at : ℕ) (name : List ℕ) (filter : FilterValue) (sockets left : List Socket) (told : Ip × Share) (before after : List (Ip × Tally)) (history : List AcceptedCall)
-    → IsConsistent moment sockets before → later ≡ max moment at → Some told ≡ option_map told_of (socket_named name sockets) → IsChanged later name filter sockets left told before after
-    → SocketsHold (value_of moment sockets before) history → SocketsHold (value_of later left after) (with_call at (Change name filter) history)
-holds_changed moment later at name filter sockets left told before after history consistent now same changed holds =
-    let found = IsFound-of name sockets told same in
-    let socket = found.socket in
-    let read : later ≡ max (latest history) at = now ∙ ap (λ (one : ℕ). max one at) holds.moment in
-    let tally = changed_tally later filter told socket before after found.is changed.tally in
-    let stands = Stands-changed history (tally_at before) at name filter socket (Stands-of moment sockets before history consistent holds)
-    (IsNamed-of moment name sockets before socket history consistent holds.sockets found.found) in
-    SocketsHold-of later left after (with_call at (Change name filter) history) changed.ordered read (changed.rest ∙ ap (sockets_after (Change name filter)) holds.sockets)
-    (Stands-same (with_call at (Change name filter) history)
-    (replaced socket.group (tally_changed (max (latest history) at) (share_of socket.filter) (share_of filter) (tally_at before socket.group)) (tally_at before)) (tally_at after)
-    (subst (λ (one : ℕ). HasTally socket.group (tally_changed one (share_of socket.filter) (share_of filter) (tally_at before socket.group)) before after) read tally) stands)
-
--- why another filter is refused
-pub refusal_changed : (moment later at : ℕ) (name : List ℕ) (filter : FilterValue) (sockets : List Socket) (told : Ip × Share) (before : List (Ip × Tally)) (history : List AcceptedCall)
-    → IsConsistent moment sockets before → later ≡ max moment at → Some told ≡ option_map told_of (socket_named name sockets) → SocketsHold (value_of moment sockets before) history
-    → refusal_of at (Change name filter) history ≡ limit_changed later filter told before
-refusal_changed moment later at name filter sockets told before history consistent now same holds =
-    let found = IsFound-of name sockets told same in
-    let socket = found.socket in
-    let read : later ≡ max (latest history) at = now ∙ ap (λ (one : ℕ). max one at) holds.moment in
-    refusal-changed at name filter socket history before consistent.needed (Stands-of moment sockets before history consistent holds)
-    (IsNamed-of moment name sockets before socket history consistent holds.sockets found.found)
-    ∙ ap (λ (one : ℕ). limit_changed one filter (told_of socket) before) (sym read) ∙ ap (λ (pair : Ip × Share). limit_changed later filter pair before) (sym found.is)
-
--- the same of every history that the sockets stand for, by what was passed
-pub refused_change : (moment later at : ℕ) (name : List ℕ) (filter : FilterValue) (sockets : List Socket) (told : Ip × Share) (before : List (Ip × Tally)) (old : SocketsValue) (passed : Option SocketFault)
-    → value_of moment sockets before ≡ old → IsConsistent moment sockets before → later ≡ max moment at → Some told ≡ option_map told_of (socket_named name sockets)
-    → limit_changed later filter told before ≡ passed → (history : List AcceptedCall) → SocketsHold old history → refusal_of at (Change name filter) history ≡ passed
-refused_change moment later at name filter sockets told before old passed view consistent now same limit history holds =
-    refusal_changed moment later at name filter sockets told before history consistent now same (subst (λ (value : SocketsValue). SocketsHold value history) (sym view) holds) ∙ limit
-
-none_told : (found : Option Socket) → option_map told_of found ≡ None → found ≡ None
-none_told None none = refl
-none_told (Some socket) none = absurd cc
+told_none : (found : Option Socket) → option_map told_of found ≡ None → found ≡ None
+told_none None none = refl
+told_none (Some socket) none = absurd cc
 
 -- no socket has the name
-pub unknown_name : (name : List ℕ) (sockets : List Socket) (history : List AcceptedCall) → None ≡ option_map told_of (socket_named name sockets) → sockets ≡ open_sockets history
-    → socket_named name (open_sockets history) ≡ None
-unknown_name name sockets history none same = ap (socket_named name) (sym same) ∙ none_told (socket_named name sockets) (sym none)
+pub unknown : (name : List ℕ) (sockets : List Socket) → None ≡ option_map told_of (socket_named name sockets) → socket_named name sockets ≡ None
+unknown name sockets none = told_none (socket_named name sockets) (sym none)
 
--- what a new socket leaves, before farewells are dropped and after
-pub record IsOpened (later : ℕ) (socket : Socket) (sockets left : List Socket) (before between after : List (Ip × Tally)) : Type 0 where
-  pub rest : left ≡ sockets ++ socket ∷ []
-  pub tally : HasTally socket.group (tally_with (share_of socket.filter) (tally_at before socket.group)) before between
-  pub ordered_between : AreNeeded between
-  pub fresh : HasTallies (tally_fresh later) between after
-  pub ordered : AreNeeded after
+some_told : (found : Option Socket) (some : Bool) → is_some (option_map told_of found) ≡ some → is_some found ≡ some
+some_told None some is = is
+some_told (Some socket) some is = is
 
--- the limits that a new socket passes
-abbrev pub limit_opened : ℕ → Ip → FilterValue → List (Ip × Tally) → Option SocketFault
-limit_opened later group filter tallies = first_holding (limits_of later group tallies ((tally_at tallies group).sources + length filter.sources))
+-- whether some socket has it
+pub taken : (name : List ℕ) (sockets : List Socket) (some : Bool) → is_some (option_map told_of (socket_named name sockets)) ≡ some → is_some (socket_named name sockets) ≡ some
+taken name sockets some is = some_told (socket_named name sockets) some is
 
-pub consistent_opened : (moment later : ℕ) (socket : Socket) (sockets left : List Socket) (before between after : List (Ip × Tally)) → IsConsistent moment sockets before → moment ≤ later
-    → socket_named socket.name sockets ≡ None → limit_opened later socket.group socket.filter before ≡ None → is_forwardable socket.group ≡ true → AreOfGroup socket.group socket.filter
-    → IsOpened later socket sockets left before between after → IsConsistent later left after
-consistent_opened moment later socket sockets left before between after consistent onward absent none forwarded family opened =
-    let group = socket.group in
-    let sources = (tally_at before group).sources + length socket.filter.sources in
-    let within = IsWithin-of sources (octets_besides (family_of group) later group before + raw_octets (family_of group) sources) none in
-    subst (λ (all : List Socket). IsConsistent later all after) (sym opened.rest)
-    (IsConsistent-fresh later (sockets ++ socket ∷ []) between after
-    (IsConsistent-replaced moment later group (tally_with (share_of socket.filter) (tally_at before group)) sockets (sockets ++ socket ∷ []) before between consistent onward
-    opened.ordered_between opened.tally (others_opened sockets socket) (IsFit-opened moment later socket sockets before consistent absent forwarded family within.few within.short))
-    opened.ordered opened.fresh)
+-- ---- the slots after calls
 
-pub holds_opened : (moment later at : ℕ) (name : List ℕ) (group : Ip) (filter : FilterValue) (sockets left : List Socket) (before between after : List (Ip × Tally)) (history : List AcceptedCall)
-    → IsConsistent moment sockets before → later ≡ max moment at → IsOpened later (record { name = name; group = group; filter = filter }) sockets left before between after
-    → SocketsHold (value_of moment sockets before) history → SocketsHold (value_of later left after) (with_call at (Open name group filter) history)
-holds_opened moment later at name group filter sockets left before between after history consistent now opened holds =
-    let next = with_call at (Open name group filter) history in
-    let socket : Socket = record { name = name; group = group; filter = filter } in
-    let read : later ≡ latest next = now ∙ ap (λ (one : ℕ). max one at) holds.moment in
-    let stands = Stands-same next (replaced group (tally_with (share_of filter) (tally_at before group)) (tally_at before)) (tally_at between) opened.tally
-    (Stands-opened history (tally_at before) at name group filter (Stands-of moment sockets before history consistent holds)) in
-    SocketsHold-of later left after next opened.ordered read (opened.rest ∙ ap (λ (all : List Socket). all ++ socket ∷ []) holds.sockets)
-    (Stands-same next (λ one. tally_fresh (latest next) (tally_at between one)) (tally_at after) (subst (λ (one : ℕ). HasTallies (tally_fresh one) between after) read opened.fresh)
-    (Stands-fresh next (tally_at between) stands))
+wanted-is : (history : List AcceptedCall) (sockets : List Socket) (group : Ip) → sockets ≡ open_sockets history → some_wants group sockets ≡ is_wanted history group
+wanted-is history sockets group same = ap (some_wants group) same ∙ sym (wants_any-merged (filters_on group (open_sockets history)))
 
--- why a new socket is refused
-pub refusal_opened : (moment later at : ℕ) (name : List ℕ) (group : Ip) (filter : FilterValue) (sockets : List Socket) (before : List (Ip × Tally)) (history : List AcceptedCall)
-    → IsConsistent moment sockets before → later ≡ max moment at → socket_named name sockets ≡ None → SocketsHold (value_of moment sockets before) history
-    → refusal_of at (Open name group filter) history ≡ limit_opened later group filter before
-refusal_opened moment later at name group filter sockets before history consistent now absent holds =
-    let read : later ≡ max (latest history) at = now ∙ ap (λ (one : ℕ). max one at) holds.moment in
-    refusal-opened at name group filter history before consistent.needed (Stands-of moment sockets before history consistent holds)
-    (ap (λ (all : List Socket). is_some (socket_named name all)) (sym holds.sockets) ∙ ap is_some absent)
-    ∙ ap (λ (one : ℕ). limit_opened one group filter before) (sym read)
+-- a call that changes the sockets of one group
+pub after_one : (at : ℕ) (call : SocketCall) (history : List AcceptedCall) (moment later : ℕ) (sockets after : List Socket) (slots new : List (Ip × Option ℕ)) (group : Ip) → KeptFor moment sockets slots history
+    → later ≡ max moment at → after ≡ sockets_after call sockets → AreOthersKept group sockets after → IsAscending ip_order (keys_of new)
+    → HasSlot group (slot_of (has_socket group after) (left_after (some_wants group after) (some_wants group sockets) later (kept_at slots group))) slots new
+    → (left : Ip → Option ℕ) × AreFollowed (read_at at call history) history (left_in (farewells_in slots)) left × IsAfter (read_at at call history) history later after slots new left
+after_one at call history moment later sockets after slots new group keeps now rest others ordered is =
+    let newest = read_at at call history in
+    let left = left_in (farewells_in slots) in
+    let same : after ≡ open_sockets (newest ∷ history) = rest ∙ ap (sockets_after call) keeps.same in
+    let read : later ≡ max (latest history) at = now ∙ ap (λ (one : ℕ). max one at) keeps.now in
+    let own : Option ℕ = left_after (some_wants group after) (some_wants group sockets) later (kept_at slots group) in
+    let follow : own ≡ left_after (is_wanted (newest ∷ history) group) (is_wanted history group) newest.moment (left group) =
+    ap (λ (wanted : Bool). left_after wanted (some_wants group sockets) later (kept_at slots group)) (wanted-is (newest ∷ history) after group same)
+    ∙ ap (λ (before : Bool). left_after (is_wanted (newest ∷ history) group) before later (kept_at slots group)) (wanted-is history sockets group keeps.same)
+    ∙ ap (λ (one : ℕ). left_after (is_wanted (newest ∷ history) group) (is_wanted history group) one (kept_at slots group)) read
+    ∙ ap (left_after (is_wanted (newest ∷ history) group) (is_wanted history group) newest.moment) (kept-is sockets slots left keeps.are group) in
+    let followed = AreFollowed-one newest history left group own keeps.stands
+    (λ other apart. ap (on_group other) (sym same) ∙ others other apart ∙ ap (on_group other) keeps.same) follow in
+    let lefts : Ip → Option ℕ = λ other. cond (same_group group other) own (left other) in (
+      lefts,
+      followed,
+      record {
+        now = read;
+        same = same;
+        are = AreSlots-one sockets after slots new left group own keeps.are ordered is others;
+        stands = Stands-next newest history left lefts (omega arith) keeps.stands followed;
+      },
+    )
 
--- the same of every history that the sockets stand for, by what was passed
-pub refused_opening : (moment later at : ℕ) (name : List ℕ) (group : Ip) (filter : FilterValue) (sockets : List Socket) (before : List (Ip × Tally)) (old : SocketsValue) (passed : Option SocketFault)
-    → value_of moment sockets before ≡ old → IsConsistent moment sockets before → later ≡ max moment at → socket_named name sockets ≡ None
-    → limit_opened later group filter before ≡ passed → (history : List AcceptedCall) → SocketsHold old history → refusal_of at (Open name group filter) history ≡ passed
-refused_opening moment later at name group filter sockets before old passed view consistent now absent limit history holds =
-    refusal_opened moment later at name group filter sockets before history consistent now absent (subst (λ (value : SocketsValue). SocketsHold value history) (sym view) holds) ∙ limit
+-- the call that closes every socket
+pub after_all : (at : ℕ) (history : List AcceptedCall) (moment later : ℕ) (sockets : List Socket) (slots new : List (Ip × Option ℕ)) → KeptFor moment sockets slots history → later ≡ max moment at
+    → IsAscending ip_order (keys_of new) → AreMade (slot_left sockets later) slots new
+    → (left : Ip → Option ℕ) × AreFollowed (read_at at LeaveAll history) history (left_in (farewells_in slots)) left × IsAfter (read_at at LeaveAll history) history later [] slots new left
+after_all at history moment later sockets slots new keeps now ordered is =
+    let newest = read_at at LeaveAll history in
+    let left = left_in (farewells_in slots) in
+    let read : later ≡ max (latest history) at = now ∙ ap (λ (one : ℕ). max one at) keeps.now in
+    let lefts : Ip → Option ℕ = λ group. left_after false (some_wants group sockets) later (left group) in
+    let followed : AreFollowed newest history left lefts = λ group.
+    ap (λ (before : Bool). left_after false before later (left group)) (wanted-is history sockets group keeps.same)
+    ∙ ap (λ (one : ℕ). left_after false (is_wanted history group) one (left group)) read in (
+      lefts,
+      followed,
+      record {
+        now = read;
+        same = refl;
+        are = AreSlots-left sockets slots new left later keeps.are ordered is;
+        stands = Stands-next newest history left lefts (omega arith) keeps.stands followed;
+      },
+    )
 
--- a name that is taken
-pub taken_by : (name : List ℕ) (sockets : List Socket) (history : List AcceptedCall) → is_some (option_map told_of (socket_named name sockets)) ≡ true → sockets ≡ open_sockets history
-    → is_open name history ≡ true
-taken_by name sockets history taken same = ap (λ (all : List Socket). is_some (socket_named name all)) (sym same) ∙ some_told (socket_named name sockets) taken
-
--- and one that isn't
-pub absent_by : (name : List ℕ) (sockets : List Socket) → is_some (option_map told_of (socket_named name sockets)) ≡ false → socket_named name sockets ≡ None
-absent_by name sockets absent = none_some (socket_named name sockets) absent
+-- each farewell stays, unless its group is wanted
+pub keeps_farewells : (at : ℕ) (call : SocketCall) (history : List AcceptedCall) (moment later : ℕ) (sockets after : List Socket) (slots new : List (Ip × Option ℕ)) (left : Ip → Option ℕ)
+    → KeptFor moment sockets slots history → AreFollowed (read_at at call history) history (left_in (farewells_in slots)) left → IsAfter (read_at at call history) history later after slots new left
+    → KeepsFarewells (with_call at call history) (value_of moment sockets slots) (value_of later after new)
+keeps_farewells at call history moment later sockets after slots new left keeps follow is group one kept unwanted =
+    left_in-is after new left is.are group ∙ farewell_stays (read_at at call history) history (left_in (farewells_in slots)) left keeps.stands follow group one kept unwanted
 
 due_by : (test : Bool) (left : Option ℕ) (later moment : ℕ) → may_be_due later left ≡ test → cond test left None ≡ Some moment → later ≤ moment + longest_farewell
 due_by true None later moment due is = absurd cc
@@ -272,36 +190,227 @@ due_by true (Some other) later moment due is =
     let same : other ≡ moment = cc in let within = leb-true later (other + longest_farewell) due in omega arith
 due_by false left later moment due is = absurd cc
 
--- no farewell is left that can't be due any more
-pub drops_old : (later : ℕ) (sockets : List Socket) (before after : List (Ip × Tally)) → HasTallies (tally_fresh later) before after → AreNeeded after → HasNoOldFarewell (value_of later sockets after)
-drops_old later sockets before after fresh ordered =
-    each_farewell (λ farewell. later ≤ farewell.left + longest_farewell) (tally_at after) after
-    (λ group moment is. due_by (may_be_due later (tally_at before group).left) (tally_at before group).left later moment refl (ap (λ (one : Tally). one.left) (sym (fresh group)) ∙ is))
-    (AreAt-ordered after ordered)
+-- where old farewells are dropped
+pub after_fresh : (newest : AcceptedCall) (history : List AcceptedCall) (later : ℕ) (after : List Socket) (slots between new : List (Ip × Option ℕ)) (left : Ip → Option ℕ)
+    → IsAfter newest history later after slots between left → IsAscending ip_order (keys_of new) → AreMade (slot_fresh after later) between new
+    → IsAfter newest history later after slots new (λ group. left_fresh later (left group)) × HasNoOldFarewell (value_of later after new)
+after_fresh newest history later after slots between new left is ordered fresh =
+    let are = AreSlots-fresh after between new left later is.are ordered fresh in (
+      record {
+        now = is.now;
+        same = is.same;
+        are = are;
+        stands = subst (λ (one : ℕ). Stands (newest ∷ history) (λ group. left_fresh one (left group))) (sym is.now) (Stands-fresh (newest ∷ history) left is.stands);
+      },
+      each_farewell (λ one. later ≤ one.left + longest_farewell) after new (λ group. left_fresh later (left group)) are
+          (λ group moment same. due_by (may_be_due later (left group)) (left group) later moment refl same),
+    )
 
--- the other groups are within the limit
-pub besides_short : (moment later : ℕ) (group : Ip) (sockets : List Socket) (tallies : List (Ip × Tally)) → IsConsistent moment sockets tallies → moment ≤ later
-    → octets_besides (family_of group) later group tallies ≤ 1400
-besides_short moment later group sockets tallies consistent onward =
-    omega (arith, consistent.short (family_of group), octets_besides-le (family_of group) moment later group tallies onward)
+-- ---- the limits
 
--- what the limits of another filter ask for
-pub record MayChange (later : ℕ) (told : Ip × Share) (tallies : List (Ip × Tally)) : Type 0 where
-  pub some : ltb 0 (tally_at tallies told.0).sockets ≡ true
-  pub before : told.1.sources ≤ (tally_at tallies told.0).sources
-  pub short : octets_besides (family_of told.0) later told.0 tallies ≤ 1400
+-- what the first limit that is passed asks for
+pub record MayPass (moment later : ℕ) (sockets : List Socket) (slots : List (Ip × Option ℕ)) (group : Ip) : Type 0 where
+  pub few : listed_on group sockets ≤ 32
+  pub total : listed_in (family_of group) sockets ≤ 1400
+  pub places : places_besides sockets (family_of group) later group slots ≤ 1400
 
-pub MayChange-of : (moment later : ℕ) (name : List ℕ) (told : Ip × Share) (sockets : List Socket) (tallies : List (Ip × Tally)) → IsConsistent moment sockets tallies → moment ≤ later
-    → Some told ≡ option_map told_of (socket_named name sockets) → MayChange later told tallies
-MayChange-of moment later name told sockets tallies consistent onward same =
+pub MayPass-of : (moment later : ℕ) (sockets : List Socket) (slots : List (Ip × Option ℕ)) (group : Ip) → IsSound moment sockets slots → moment ≤ later → MayPass moment later sockets slots group
+MayPass-of moment later sockets slots group sound onward =
+    let history = sound.history in
+    let keep = keeps moment sockets slots history sound sound.holds in
+    let family = family_of group in
+    let few = IsFew-of family (length (raw_groups family history)) (listed_in family (open_sockets history)) 1400 (omega (arith, raw-is family history, keep.limits.octets family)) in
+    let now = keep.now in
+    let within = places-few history slots keep.kept family later group (omega arith) in
+    let on = ap (listed_on group) keep.same in
+    let all = ap (listed_in family) keep.same in
+    let places = ap (λ (some : List Socket). places_besides some family later group slots) keep.same in
+    record {
+      few = omega (arith, on, raw_sources-listed group (open_sockets history), keep.limits.sources group);
+      total = omega (arith, all, few.sources);
+      places = omega (arith, places, within, few.records);
+    }
+
+-- ---- what the calls leave
+
+-- what a call on one group leaves
+pub record IsOne (later : ℕ) (call : SocketCall) (group : Ip) (sockets after : List Socket) (slots new : List (Ip × Option ℕ)) : Type 0 where
+  pub rest : after ≡ sockets_after call sockets
+  pub slot : HasSlot group (slot_of (has_socket group after) (left_after (some_wants group after) (some_wants group sockets) later (kept_at slots group))) slots new
+  pub ordered : IsAscending ip_order (keys_of new)
+
+pub one_of : (later : ℕ) (call : SocketCall) (group : Ip) (sockets after : List Socket) (slots new : List (Ip × Option ℕ)) (before : Bool) → before ≡ some_wants group sockets
+    → after ≡ sockets_after call sockets → HasSlot group (slot_of (has_socket group after) (left_after (some_wants group after) before later (kept_at slots group))) slots new
+    → IsAscending ip_order (keys_of new) → IsOne later call group sockets after slots new
+one_of later call group sockets after slots new before wanted rest slot ordered = record {
+  rest = rest;
+  slot = subst (λ (test : Bool). HasSlot group (slot_of (has_socket group after) (left_after (some_wants group after) test later (kept_at slots group))) slots new) wanted slot;
+  ordered = ordered;
+}
+
+-- what is promised of a call
+pub record Does (at : ℕ) (call : SocketCall) (moment later : ℕ) (sockets after : List Socket) (slots new : List (Ip × Option ℕ)) : Type 0 where
+  pub stands : (history : List AcceptedCall) → SocketsHold (value_of moment sockets slots) history → SocketsHold (value_of later after new) (with_call at call history)
+  pub keep : (history : List AcceptedCall) → SocketsHold (value_of moment sockets slots) history → KeepsFarewells (with_call at call history) (value_of moment sockets slots) (value_of later after new)
+  pub back : slots_of after (farewells_in new) ≡ new
+
+does_one : (at : ℕ) (call : SocketCall) (moment later : ℕ) (sockets after : List Socket) (slots new : List (Ip × Option ℕ)) (group : Ip) → IsSound moment sockets slots → later ≡ max moment at
+    → AreOthersKept group sockets after → IsOne later call group sockets after slots new → Does at call moment later sockets after slots new
+does_one at call moment later sockets after slots new group sound now others one =
+    let done = λ (history : List AcceptedCall) (holds : SocketsHold (value_of moment sockets slots) history).
+    after_one at call history moment later sockets after slots new group (keeps moment sockets slots history sound holds) now one.rest others one.ordered one.slot in
+    record {
+      stands = λ history holds. let is = done history holds in SocketsHold-after (read_at at call history) history later after slots new is.0 is.2;
+      keep = λ history holds. let is = done history holds in keeps_farewells at call history moment later sockets after slots new is.0 (keeps moment sockets slots history sound holds) is.1 is.2;
+      back = let is = done sound.history sound.holds in back-of after new is.0 is.2.are;
+    }
+
+module _ (at moment later : ℕ) (name : List ℕ) (sockets after : List Socket) (slots new : List (Ip × Option ℕ)) (told : Ip × ℕ) (sound : IsSound moment sockets slots) (now : later ≡ max moment at)
+    (same : Some told ≡ option_map told_of (socket_named name sockets)) where
+  abbrev found : IsFound name sockets told
+  found = IsFound-of name sockets told same
+
+  pub has_name-of : HasName name found.socket sockets
+  has_name-of = (keeps moment sockets slots sound.history sound sound.holds).apart name found.socket found.found
+
+  others_of : (call : SocketCall) → AreOthersKept found.socket.group sockets (sockets_after call sockets) → after ≡ sockets_after call sockets → AreOthersKept told.0 sockets after
+  others_of call kept rest other apart = ap (on_group other) rest ∙ kept other (sym (ap (λ (one : Ip × ℕ). same_group other one.0) found.is) ∙ apart)
+
+  -- closing a socket
+  pub does_closed : IsOne later (Close name) told.0 sockets after slots new → Does at (Close name) moment later sockets after slots new
+  does_closed one =
+      does_one at (Close name) moment later sockets after slots new told.0 sound now
+      (others_of (Close name) (kept-closed found.socket sockets (sockets_after (Close name) sockets) (λ filter. sockets_after (Change name filter) sockets) has_name-of) one.rest) one
+
+  -- another filter of a socket
+  pub does_changed : (filter : FilterValue) → IsOne later (Change name filter) told.0 sockets after slots new → Does at (Change name filter) moment later sockets after slots new
+  does_changed filter one =
+      does_one at (Change name filter) moment later sockets after slots new told.0 sound now
+      (others_of (Change name filter) (kept-changed found.socket sockets (sockets_after (Close name) sockets) (λ one. sockets_after (Change name one) sockets) has_name-of filter) one.rest) one
+
+-- closing all of them
+pub does_left : (at moment later : ℕ) (sockets : List Socket) (slots new : List (Ip × Option ℕ)) → IsSound moment sockets slots → later ≡ max moment at → IsAscending ip_order (keys_of new)
+    → AreMade (slot_left sockets later) slots new → Does at LeaveAll moment later sockets [] slots new
+does_left at moment later sockets slots new sound now ordered made =
+    let done = λ (history : List AcceptedCall) (holds : SocketsHold (value_of moment sockets slots) history).
+    after_all at history moment later sockets slots new (keeps moment sockets slots history sound holds) now ordered made in
+    record {
+      stands = λ history holds. let is = done history holds in SocketsHold-after (read_at at LeaveAll history) history later [] slots new is.0 is.2;
+      keep = λ history holds. let is = done history holds in keeps_farewells at LeaveAll history moment later sockets [] slots new is.0 (keeps moment sockets slots history sound holds) is.1 is.2;
+      back = let is = done sound.history sound.holds in back-of [] new is.0 is.2.are;
+    }
+
+-- what a new socket leaves
+pub record Opens (at : ℕ) (call : SocketCall) (moment later : ℕ) (sockets after : List Socket) (slots new : List (Ip × Option ℕ)) : Type 0 where
+  pub stands : (history : List AcceptedCall) → SocketsHold (value_of moment sockets slots) history → SocketsHold (value_of later after new) (with_call at call history)
+  pub drops : HasNoOldFarewell (value_of later after new)
+  pub back : slots_of after (farewells_in new) ≡ new
+
+pub does_opened : (at moment later : ℕ) (name : List ℕ) (group : Ip) (filter : FilterValue) (sockets after : List Socket) (slots between new : List (Ip × Option ℕ)) → IsSound moment sockets slots
+    → later ≡ max moment at → after ≡ sockets_after (Open name group filter) sockets
+    → HasSlot group (Some (left_after (some_wants group after) (some_wants group sockets) later (kept_at slots group))) slots between → IsAscending ip_order (keys_of between)
+    → IsAscending ip_order (keys_of new) → AreMade (slot_fresh after later) between new → Opens at (Open name group filter) moment later sockets after slots new
+does_opened at moment later name group filter sockets after slots between new sound now rest slot ordered last fresh =
+    let call = Open name group filter in
+    let left = left_after (some_wants group after) (some_wants group sockets) later (kept_at slots group) in
+    let socket : Socket = record { name = name; group = group; filter = filter } in
+    let some : has_socket group after ≡ true = ap (has_socket group) rest ∙ some_on group sockets socket [] refl in
+    let others : AreOthersKept group sockets after = λ other apart. ap (on_group other) rest ∙ kept-opened sockets socket other apart in
+    let own : HasSlot group (slot_of (has_socket group after) left) slots between = subst (λ (test : Bool). HasSlot group (slot_of test left) slots between) (sym some) slot in
+    let one = λ (history : List AcceptedCall) (holds : SocketsHold (value_of moment sockets slots) history).
+    after_one at call history moment later sockets after slots between group (keeps moment sockets slots history sound holds) now rest others ordered own in
+    let done = λ (history : List AcceptedCall) (holds : SocketsHold (value_of moment sockets slots) history).
+    let is = one history holds in after_fresh (read_at at call history) history later after slots between new is.0 is.2 last fresh in
+    record {
+      stands = λ history holds. let is = done history holds in SocketsHold-after (read_at at call history) history later after slots new (λ at. left_fresh later ((one history holds).0 at)) is.0;
+      drops = (done sound.history sound.holds).1;
+      back = let is = done sound.history sound.holds in back-of after new (λ at. left_fresh later ((one sound.history sound.holds).0 at)) is.0.are;
+    }
+
+-- the limit that a new socket passes is why it is refused
+pub refused_opening : (at moment later : ℕ) (name : List ℕ) (group : Ip) (filter : FilterValue) (sockets : List Socket) (slots : List (Ip × Option ℕ)) (old : SocketsValue) (sources : List Ip)
+    (passed : Option SocketFault) → value_of moment sockets slots ≡ old → IsSound moment sockets slots → later ≡ max moment at → is_some (socket_named name sockets) ≡ false → sources ≡ filter.sources
+    → passed ≡ limit_by sockets slots later group 0 (length sources) → (history : List AcceptedCall) → SocketsHold old history → refusal_of at (Open name group filter) history ≡ passed
+refused_opening at moment later name group filter sockets slots old sources passed view sound now absent listed limit history old_holds =
+    let holds = subst (λ (value : SocketsValue). SocketsHold value history) (sym view) old_holds in
+    refusal-opened at name group filter history slots (keeps moment sockets slots history sound holds).kept
+    (ap (λ (all : List Socket). is_some (socket_named name all)) (sym holds.sockets) ∙ absent)
+    ∙ ap (λ (all : List Socket). limit_by all slots (max (latest history) at) group 0 (length filter.sources)) (sym holds.sockets)
+    ∙ ap (λ (one : ℕ). limit_by sockets slots one group 0 (length filter.sources)) (sym (now ∙ ap (λ (one : ℕ). max one at) holds.moment))
+    ∙ sym (limit ∙ ap (λ (all : List Ip). limit_by sockets slots later group 0 (length all)) listed)
+
+-- and so it is with another filter
+pub refused_change : (at moment later : ℕ) (name : List ℕ) (filter : FilterValue) (sockets : List Socket) (slots : List (Ip × Option ℕ)) (told : Ip × ℕ) (old : SocketsValue) (sources : List Ip)
+    (passed : Option SocketFault) → value_of moment sockets slots ≡ old → IsSound moment sockets slots → later ≡ max moment at → Some told ≡ option_map told_of (socket_named name sockets)
+    → sources ≡ filter.sources → passed ≡ limit_by sockets slots later told.0 told.1 (length sources) → (history : List AcceptedCall) → SocketsHold old history
+    → refusal_of at (Change name filter) history ≡ passed
+refused_change at moment later name filter sockets slots told old sources passed view sound now same listed limit history old_holds =
+    let holds = subst (λ (value : SocketsValue). SocketsHold value history) (sym view) old_holds in
     let found = IsFound-of name sockets told same in
+    let keep = keeps moment sockets slots history sound holds in
     let socket = found.socket in
-    let named : IsNamed name socket sockets = record { apart = consistent.apart; found = found.found } in
-    let counts = Counts-of (tally_at tallies socket.group) socket.group sockets (consistent.tallied socket.group) in
-    let here = CountsOne-of name socket sockets (tally_at tallies socket.group) named counts in
-    subst (λ (pair : Ip × Share). MayChange later pair tallies) (sym found.is)
+    refusal-changed at name filter socket history slots keep.kept (subst (HasName name socket) holds.sockets (keep.apart name socket found.found))
+    (ap (socket_named name) (sym holds.sockets) ∙ found.found)
+    ∙ ap (λ (all : List Socket). limit_by all slots (max (latest history) at) socket.group (length socket.filter.sources) (length filter.sources)) (sym holds.sockets)
+    ∙ ap (λ (one : ℕ). limit_by sockets slots one socket.group (length socket.filter.sources) (length filter.sources)) (sym (now ∙ ap (λ (one : ℕ). max one at) holds.moment))
+    ∙ ap (λ (one : Ip × ℕ). limit_by sockets slots later one.0 one.1 (length filter.sources)) (sym found.is)
+    ∙ sym (limit ∙ ap (λ (all : List Ip). limit_by sockets slots later told.0 told.1 (length all)) listed)
+
+-- what closing a socket leaves is sound
+pub sound_closed : (at moment later : ℕ) (name : List ℕ) (sockets after : List Socket) (slots new : List (Ip × Option ℕ)) (told : Ip × ℕ) → IsSound moment sockets slots
+    → Some told ≡ option_map told_of (socket_named name sockets) → Does at (Close name) moment later sockets after slots new → IsSound later after new
+sound_closed at moment later name sockets after slots new told sound same does =
+    IsSound-after at (Close name) moment later sockets after slots new sound does.stands does.back tt
+    (λ history holds. refusal-closed at name history
+    (ap (λ (all : List Socket). is_some (socket_named name all)) (sym holds.sockets) ∙ ap is_some (IsFound-of name sockets told same).found))
+
+pub sound_left : (at moment later : ℕ) (sockets : List Socket) (slots new : List (Ip × Option ℕ)) → IsSound moment sockets slots → Does at LeaveAll moment later sockets [] slots new → IsSound later [] new
+sound_left at moment later sockets slots new sound does =
+    IsSound-after at LeaveAll moment later sockets [] slots new sound does.stands does.back tt (λ history holds. refusal-all at history)
+
+pub sound_changed : (at moment later : ℕ) (name : List ℕ) (filter : FilterValue) (sockets after : List Socket) (slots new : List (Ip × Option ℕ)) → IsSound moment sockets slots
+    → Does at (Change name filter) moment later sockets after slots new → MayCall (Change name filter) sockets
+    → ((history : List AcceptedCall) → SocketsHold (value_of moment sockets slots) history → refusal_of at (Change name filter) history ≡ None) → IsSound later after new
+sound_changed at moment later name filter sockets after slots new sound does may free =
+    IsSound-after at (Change name filter) moment later sockets after slots new sound does.stands does.back may free
+
+pub sound_opened : (at moment later : ℕ) (name : List ℕ) (group : Ip) (filter : FilterValue) (sockets after : List Socket) (slots new : List (Ip × Option ℕ)) → IsSound moment sockets slots
+    → Opens at (Open name group filter) moment later sockets after slots new → MayCall (Open name group filter) sockets
+    → ((history : List AcceptedCall) → SocketsHold (value_of moment sockets slots) history → refusal_of at (Open name group filter) history ≡ None) → IsSound later after new
+sound_opened at moment later name group filter sockets after slots new sound opens may free =
+    IsSound-after at (Open name group filter) moment later sockets after slots new sound opens.stands opens.back may free
+
+-- as before any call
+pub IsSound-none : (moment : ℕ) (sockets : List Socket) (slots : List (Ip × Option ℕ)) → moment ≡ 0 → sockets ≡ [] → slots ≡ [] → IsSound moment sockets slots
+IsSound-none moment sockets slots now none empty = record {
+  history = [];
+  holds = record {
+    moment = now;
+    sockets = none;
+    farewells = λ group. subst (λ (all : List (Ip × Option ℕ)). IsKept [] group (left_in (farewells_in all) group)) (sym empty)
+        (record { of_history = λ left is. is; there = λ left is recent. is });
+    each = subst (λ (all : List (Ip × Option ℕ)). All (λ one. left_at [] one.group ≡ Some one.left) (farewells_in all)) (sym empty) (All-nil (λ (one : Farewell). left_at [] one.group ≡ Some one.left));
+  };
+  lawful = IsLawful-none;
+  back = ap (λ (all : List Socket). slots_of all (farewells_in slots)) none ∙ ap (λ (all : List (Ip × Option ℕ)). slots_of [] (farewells_in all)) empty ∙ sym empty;
+}
+
+-- what the first limit asks for of a socket, and that its group has a slot
+pub record MayChange (sockets : List Socket) (slots : List (Ip × Option ℕ)) (told : Ip × ℕ) : Type 0 where
+  pub on : told.1 ≤ listed_on told.0 sockets
+  pub all : told.1 ≤ listed_in (family_of told.0) sockets
+  pub slot : IsSome (slot_at slots told.0)
+
+pub MayChange-of : (moment : ℕ) (name : List ℕ) (sockets : List Socket) (slots : List (Ip × Option ℕ)) (told : Ip × ℕ) → IsSound moment sockets slots
+    → Some told ≡ option_map told_of (socket_named name sockets) → MayChange sockets slots told
+MayChange-of moment name sockets slots told sound same =
+    let found = IsFound-of name sockets told same in
+    let keep = keeps moment sockets slots sound.history sound sound.holds in
+    let counted = IsCounted-of name found.socket sockets (keep.apart name found.socket found.found) in
+    let left = left_in (farewells_in slots) in
+    subst (MayChange sockets slots) (sym found.is)
     (record {
-      some = lt-ltb 0 (tally_at tallies socket.group).sockets here.number;
-      before = here.sources;
-      short = besides_short moment later socket.group sockets tallies consistent onward;
+      on = counted.on;
+      all = counted.all;
+      slot = ap is_some (keep.are.each found.socket.group ∙ ap (λ (some : Bool). slot_of some (left found.socket.group)) counted.some);
     })

@@ -1,9 +1,9 @@
 -- Named sockets by the entries of their map.
-use Rattle.std.proofs.{Common.{◌≡◌, ℕ, Bool, true, false, cond, not, ◌&&◌, ◌||◌, List, [], ◌∷◌, ◌++◌, map, filter, nat_eq, None, Some, if◌then◌else◌, refl, sym, ap, ◌∙◌}, lemmas.Map.Keys.{IsDistinct-head, IsDistinct-tail}}
-use Rattle.std.specs.{Cmp.{IsEquivalence, nat_eq_equiv, Lexicographic.{pointwise, lists_equiv}}, Global.{Vec}, List.{find, list_any, IsDistinct, AllByRecursion}, Map.{lookup, keys_of, values_of, remove_entry, set_value}, Option.{option_map}}
+use Rattle.std.proofs.{Common.{◌≡◌, ℕ, Bool, true, false, cond, not, ◌&&◌, ◌||◌, List, [], ◌∷◌, ◌++◌, length, map, filter, nat_eq, None, Some, if◌then◌else◌, refl, sym, ap, ◌∙◌, arith}, lemmas.{List.Sums.{sum_by-cons}, Map.Keys.{IsDistinct-head, IsDistinct-tail}}}
+use Rattle.std.specs.{Cmp.{IsEquivalence, nat_eq_equiv, Lexicographic.{pointwise, lists_equiv}}, Global.{Vec}, List.{find, list_any, sum_by, IsDistinct, AllByRecursion}, Map.{lookup, keys_of, values_of, remove_entry, set_value}, Option.{option_map}}
 use Rattle.amt_values.specs.declared.address.Ip.{Ip}
-use Rattle.source_filter.specs.Filter.{FilterValue, admits}
-use Rattle.socket_merge.specs.{History.{Socket, refiltered, same_name}, Interface.{filters_on, same_group, some_admits}, Kept.{socket_of}, declared.stored.StoredSocket.{StoredSocket}}
+use Rattle.source_filter.specs.Filter.{FilterValue}
+use Rattle.socket_merge.specs.{History.{Socket, refiltered, same_name}, Interface.{filters_on, same_group}, FullReport.{is_empty}, Kept.{has_socket, listed, socket_of}, declared.stored.StoredSocket.{StoredSocket}}
 
 -- the test of a key's octets
 abbrev pub key_test : (List ℕ → Bool) → Vec ℕ → Bool
@@ -126,10 +126,6 @@ groups-stored (e ∷ es) = ap (λ groups. e.1.group ∷ groups) (groups-stored e
 abbrev pub filters_stored : Ip → List StoredSocket → List FilterValue
 filters_stored group stored = map (λ one. one.filter) (filter (λ one. same_group group one.group) stored)
 
--- a stored socket is of the group and wants the source
-abbrev pub admits_stored : Ip → Ip → StoredSocket → Bool
-admits_stored group source one = same_group group one.group && admits one.filter source
-
 module _ (group : Ip) where
   filters_by : (b : Bool) (e : Vec ℕ × StoredSocket) (sockets : List Socket) (stored : List StoredSocket)
       → map (λ (one : StoredSocket). one.filter) stored ≡ map (λ (one : Socket). one.filter) sockets
@@ -143,17 +139,42 @@ module _ (group : Ip) where
       filters_by (same_group group e.1.group) e (filter (λ socket. same_group group socket.group) (map socket_of es))
       (filter (λ one. same_group group one.group) (values_of es)) (filters_on-stored es)
 
-  admits_by : (b : Bool) (source : Ip) (e : Vec ℕ × StoredSocket) (sockets : List Socket) (any : Bool)
-      → any ≡ list_any (λ filter. admits filter source) (map (λ (one : Socket). one.filter) sockets)
-      → ((b && admits e.1.filter source) || any) ≡ list_any (λ filter. admits filter source) (map (λ (one : Socket). one.filter) (cond b (socket_of e ∷ sockets) sockets))
-  admits_by true source e sockets any rest = ap (λ (b : Bool). admits e.1.filter source || b) rest
-  admits_by false source e sockets any rest = rest
+  any_by : (b : Bool) (test : FilterValue → Bool) (e : Vec ℕ × StoredSocket) (sockets : List Socket) (any : Bool) → any ≡ list_any test (map (λ (one : Socket). one.filter) sockets)
+      → ((b && test e.1.filter) || any) ≡ list_any test (map (λ (one : Socket). one.filter) (cond b (socket_of e ∷ sockets) sockets))
+  any_by true test e sockets any rest = ap (λ (b : Bool). test e.1.filter || b) rest
+  any_by false test e sockets any rest = rest
 
-  pub some_admits-stored : (source : Ip) (es : List (Vec ℕ × StoredSocket)) → list_any (admits_stored group source) (values_of es) ≡ some_admits group source (map socket_of es)
-  some_admits-stored source [] = refl
-  some_admits-stored source (e ∷ es) =
-      admits_by (same_group group e.1.group) source e (filter (λ socket. same_group group socket.group) (map socket_of es))
-      (list_any (admits_stored group source) (values_of es)) (some_admits-stored source es)
+  -- some filter of the group passes a test
+  pub any-stored : (test : FilterValue → Bool) (es : List (Vec ℕ × StoredSocket))
+      → list_any (λ (one : StoredSocket). same_group group one.group && test one.filter) (values_of es) ≡ list_any test (filters_on group (map socket_of es))
+  any-stored test [] = refl
+  any-stored test (e ∷ es) =
+      any_by (same_group group e.1.group) test e (filter (λ socket. same_group group socket.group) (map socket_of es))
+      (list_any (λ one. same_group group one.group && test one.filter) (values_of es)) (any-stored test es)
+
+  some_by : (b : Bool) (e : Vec ℕ × StoredSocket) (sockets : List Socket) (any : Bool) → any ≡ not (is_empty sockets) → (b || any) ≡ not (is_empty (cond b (socket_of e ∷ sockets) sockets))
+  some_by true e sockets any rest = refl
+  some_by false e sockets any rest = rest
+
+  -- and some socket is of the group
+  pub some-stored : (es : List (Vec ℕ × StoredSocket)) → list_any (λ (one : StoredSocket). same_group group one.group) (values_of es) ≡ has_socket group (map socket_of es)
+  some-stored [] = refl
+  some-stored (e ∷ es) =
+      some_by (same_group group e.1.group) e (filter (λ socket. same_group group socket.group) (map socket_of es)) (list_any (λ one. same_group group one.group) (values_of es)) (some-stored es)
+
+-- how many sources a stored socket lists, where its group passes
+abbrev pub listed_stored : (Ip → Bool) → StoredSocket → ℕ
+listed_stored test one = if test one.group then length one.filter.sources else 0
+
+pub listed-stored : (test : Ip → Bool) (es : List (Vec ℕ × StoredSocket)) → sum_by (listed_stored test) (values_of es) ≡ listed test (map socket_of es)
+listed-stored test [] = refl
+listed-stored test (e ∷ es) =
+    omega (
+      arith,
+      sum_by-cons (listed_stored test) e.1 (values_of es),
+      sum_by-cons (λ (socket : Socket). if test socket.group then length socket.filter.sources else 0) (socket_of e) (map socket_of es),
+      listed-stored test es,
+    )
 
 apart_at : (P : Vec ℕ → Type 0) (done : List (Vec ℕ × StoredSocket)) (e : Vec ℕ × StoredSocket) (rest : List (Vec ℕ × StoredSocket))
     → AllByRecursion P (keys_of (done ++ e ∷ rest)) → P e.0

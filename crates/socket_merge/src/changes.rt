@@ -1,11 +1,10 @@
 //! The records of what changed of each group.
 
 ghost use Rattle.std.specs.Prelude.{◌≡◌, ◌++◌, IfOk, OnOk};
-ghost use Rattle.group_records.specs.Written.{is_of_family};
 ghost use Rattle.source_filter.specs.Merging.{merged};
 ghost use Rattle.socket_merge.specs.{Changes.{changed_on, changes_between, groups_among}, Interface.{filters_on}};
 
-use crate::family::family_of;
+use crate::family::is_of_family;
 use crate::named::NamedSockets;
 use amt_values::Ip;
 use group_records::Family;
@@ -46,12 +45,6 @@ fn groups_among(
     groups.dedup();
     groups.retain(|group| is_of_family(family, group));
     Ok(groups)
-}
-
-fn is_of_family(family: Family, group: &Ip) -> bool
-    ensures { result ≡ is_of_family family group.now }
-{
-    family_of(group) == family
 }
 
 // The filter of the group for all of its sockets.

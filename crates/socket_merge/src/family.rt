@@ -1,6 +1,7 @@
 //! The family of a group.
 
 ghost use Rattle.std.specs.Prelude.{◌≡◌};
+ghost use Rattle.group_records.specs.Written.{is_of_family};
 ghost use Rattle.socket_merge.specs.Refusal.{family_of};
 
 use amt_values::Ip;
@@ -13,4 +14,10 @@ pub fn family_of(group: &Ip) -> Family
         Ip::V4(_) => Family::V4,
         Ip::V6(_) => Family::V6,
     }
+}
+
+pub fn is_of_family(family: Family, group: &Ip) -> bool
+    ensures { result ≡ is_of_family family group.now }
+{
+    family_of(group) == family
 }

@@ -10,8 +10,8 @@
 
 mod changes;
 mod family;
+mod farewells;
 mod fault;
-mod groups;
 mod laws;
 mod limit;
 mod named;

@@ -1,11 +1,13 @@
 //! Open sockets by name.
 
-ghost use Rattle.std.specs.{Prelude.{◌≡◌, ◌<◌, ◌^◌, List, [], ◌∷◌, ◌++◌, ◌&&◌, None, length, map, IfOk, OnOk, OnErr}, Option.{option_map}};
-ghost use Rattle.socket_merge.specs.{History.{Change, Close, Socket, sockets_after, socket_named}, FullReport.{is_empty}, Interface.{filters_on, same_group, some_admits}, Kept.{share_of}};
-ghost use Rattle.source_filter.specs.Filter.{admits};
+ghost use Rattle.std.specs.{Prelude.{◌≡◌, ◌≤◌, List, [], ◌∷◌, ◌++◌, ◌&&◌, None, length, map, IfOk, OnOk, OnErr, if◌then◌else◌}, Option.{option_map}};
+ghost use Rattle.socket_merge.specs.{History.{Change, Close, Socket, sockets_after, socket_named}, FullReport.{is_empty}, Interface.{filters_on, same_group, some_admits}, Kept.{has_socket, listed_in, listed_on, some_wants}};
+ghost use Rattle.source_filter.specs.Filter.{admits, wants_any};
 
-use crate::stored::{Share, StoredSocket, share_of};
+use crate::family::is_of_family;
+use crate::stored::{StoredSocket, wants_any};
 use amt_values::Ip;
+use group_records::{Family, REPORT_LIMIT};
 use indexmap::IndexMap;
 use source_filter::{Filter, copy_filter};
 use std::alloc::{AllocError, Global};
@@ -37,17 +39,49 @@ impl NamedSockets {
         }
     }
 
-    /// The group of the socket of this name, and what its filter adds to the group.
-    pub fn find(&self, name: &[u8]) -> Option<(Ip, Share)>
-        ensures found { result ≡ option_map (λ socket. (socket.group, share_of socket.filter))
+    /// The group of the socket of this name, and how many sources it lists.
+    pub fn find(&self, name: &[u8]) -> Option<(Ip, usize)>
+        ensures { result ≡ option_map (λ socket. (socket.group, length socket.filter.sources))
             (socket_named name.now self.now) }
-        ensures few { length self.now < 2 ^ 63 }
     {
-        // A count of sockets never overflows by one more.
-        let sockets = self.sockets.len();
-        prove!(sockets < 1 << 63);
         let socket = self.sockets.get(name)?;
-        Some((socket.group, share_of(&socket.filter)))
+        Some((socket.group, socket.filter.sources().len()))
+    }
+
+    /// Whether some socket is of the group.
+    pub fn has(&self, group: &Ip) -> bool
+        ensures { result ≡ has_socket group.now self.now }
+    {
+        self.sockets.values().any(|socket| *group == socket.group)
+    }
+
+    /// Whether some socket of the group wants a source.
+    pub fn wants(&self, group: &Ip) -> bool
+        ensures { result ≡ some_wants group.now self.now }
+    {
+        self.sockets.values().any(|socket| wants_on(socket, group))
+    }
+
+    /// How many sources the sockets of the group list, with repeats.
+    pub fn listed_on(&self, group: &Ip) -> usize
+        requires { listed_on group.now self.now ≤ REPORT_LIMIT }
+        ensures { result ≡ listed_on group.now self.now }
+    {
+        self.sockets
+            .values()
+            .map(|socket| listed_where(*group == socket.group, socket))
+            .sum()
+    }
+
+    /// How many sources the sockets of the family list, with repeats.
+    pub fn listed_in(&self, family: Family) -> usize
+        requires { listed_in family self.now ≤ REPORT_LIMIT }
+        ensures { result ≡ listed_in family self.now }
+    {
+        self.sockets
+            .values()
+            .map(|socket| listed_where(is_of_family(family, &socket.group), socket))
+            .sum()
     }
 
     pub fn is_empty(&self) -> bool
@@ -159,4 +193,22 @@ fn admits_on(socket: &StoredSocket, group: &Ip, source: &Ip) -> bool
     ensures { result ≡ (same_group group.now socket.now.group && admits socket.now.filter source.now) }
 {
     *group == socket.group && socket.filter.admits(source)
+}
+
+// The socket is of the group and wants some source.
+fn wants_on(socket: &StoredSocket, group: &Ip) -> bool
+    ensures { result ≡ (same_group group.now socket.now.group && wants_any socket.now.filter) }
+{
+    *group == socket.group && wants_any(&socket.filter)
+}
+
+// How many sources the socket lists, where it counts.
+fn listed_where(counts: bool, socket: &StoredSocket) -> usize
+    ensures { result ≡ if counts then length socket.now.filter.sources else 0 }
+{
+    if counts {
+        socket.filter.sources().len()
+    } else {
+        0
+    }
 }

@@ -1,18 +1,19 @@
 //! The sockets of a host.
 
-ghost use Rattle.std.specs.Prelude.{◌≡◌, ℕ, ◌≤◌, ◌<◌, ◌^◌, ◌+◌, ◌↔◌, [], ◌∷◌, ◌++◌, true, false, None, length, All, IfOk, OnOk, OnErr, IsErr};
-ghost use Rattle.amt_values.specs.{Group.{is_forwardable}, declared.address.Ip.{Ip}};
+ghost use Rattle.std.specs.Prelude.{◌≡◌, ℕ, ◌≤◌, ◌↔◌, [], ◌∷◌, ◌++◌, true, false, None, length, All, IfOk, OnOk, OnErr, IsErr, Some};
+ghost use Rattle.std.specs.Map.{keys_of};
+ghost use Rattle.amt_values.specs.{Ascending.{IsAscending}, Group.{is_forwardable}, Order.{ip_order}, declared.address.Ip.{Ip}};
 ghost use Rattle.source_filter.specs.Filter.{admits};
 ghost use Rattle.group_records.specs.Written.{IsOfFamily, report_length};
 ghost use Rattle.socket_merge.specs.{Changes.{IsOneCallAfter, changes_between}, FullReport.{family_by, full_report_of, is_quiet}, History.{Change, Close, LeaveAll, Open, moment_read, socket_named, sockets_after, with_call}, Interface.{interface, wants}};
-ghost use Rattle.socket_merge.specs.{Kept.{AreNeeded, HasRoom, HasTally, share_of, tally_at, tally_with}, Refusal.{FillsNoMore, IsWithinLimits, is_open, raw_report_length, refusal_of}, Sockets.{AnswersRefusal, AreOfGroup, AreOfSocket, ForHistory, HasNoOldFarewell, KeepsFarewells, SocketsHold}};
+ghost use Rattle.socket_merge.specs.{Kept.{HasSlot, kept_at, left_after, some_wants}, Refusal.{FillsNoMore, IsWithinLimits, is_open, raw_report_length, refusal_of}, Sockets.{AnswersRefusal, AreOfGroup, AreOfSocket, ForHistory, HasNoOldFarewell, KeepsFarewells, SocketsHold}};
 
 use crate::changes::changes_between;
+use crate::farewells::Farewells;
 use crate::fault::{NoSocket, SocketFault};
-use crate::groups::Groups;
 use crate::limit::limit_passed;
 use crate::named::NamedSockets;
-use crate::stored::share_of;
+use crate::stored::left_after;
 use amt_values::{Ip, Moment};
 use group_records::{Family, ITEM_LIMIT, REPORT_LIMIT};
 use source_filter::{Filter, Records, copy_filter, merge};
@@ -27,23 +28,22 @@ use std::marker::Model;
 pub struct Sockets {
     moment: Moment,
     named: NamedSockets,
-    // Of each group with a socket or a farewell, so that closing needs no memory.
-    groups: Groups,
+    farewells: Farewells,
 }
 
 impl Model for Sockets {
-    ghost use Rattle.socket_merge.specs.{Kept.{IsSound, farewells_in, tallies_of}, Sockets.{SocketsValue}};
+    ghost use Rattle.socket_merge.specs.{Kept.{IsSound, farewells_in, slots_of}, Sockets.{SocketsValue}};
 
     ghost Value = { SocketsValue };
 
-    ghost view = { λ s. record { moment = s.moment; sockets = s.named; farewells = farewells_in s.groups } };
+    ghost view = { λ s. record { moment = s.moment; sockets = s.named; farewells = farewells_in s.farewells } };
 
-    ghost invariant = { λ s. IsSound s.moment s.named s.groups };
+    ghost invariant = { λ s. IsSound s.moment s.named s.farewells };
 
-    // The tallies are those of the sockets and farewells, so nothing is kept beside what contracts see.
-    ghost inverse = { λ v. record { moment = v.moment; named = v.sockets; groups = tallies_of v.sockets v.farewells } };
+    // The slots are those of the sockets and farewells, so nothing is kept beside what contracts see.
+    ghost inverse = { λ v. record { moment = v.moment; named = v.sockets; farewells = slots_of v.sockets v.farewells } };
 
-    ghost inverse_ok = { λ s sound i. record { moment = s.moment; named = s.named; groups = sound.back i } };
+    ghost inverse_ok = { λ s sound i. record { moment = s.moment; named = s.named; farewells = sound.back i } };
 }
 
 impl Sockets {
@@ -54,7 +54,7 @@ impl Sockets {
         Ok(Sockets {
             moment: Moment::new(0).unwrap(),
             named: NamedSockets::new(alloc),
-            groups: Groups::new(alloc),
+            farewells: Farewells::new(alloc),
         })
     }
 
@@ -86,23 +86,24 @@ impl Sockets {
         if self.named.find(name).is_some() {
             return Err(SocketFault::Taken);
         }
-        let share = share_of(filter);
-        if let Some(fault) = limit_passed(&self.groups, group, 0, share.sources, moment) {
+        let sources = filter.sources().len();
+        if let Some(fault) = limit_passed(&self.named, &self.farewells, group, 0, sources, moment) {
             return Err(fault);
         }
         match insert_both(
             &mut self.named,
-            &mut self.groups,
+            &mut self.farewells,
             alloc,
             name,
             group,
             filter,
+            moment,
         ) {
             Ok(()) => {}
             Err(_) => return Err(SocketFault::Memory),
         }
         self.moment = moment;
-        self.groups.drop_old(moment);
+        self.farewells.drop_old(&self.named, moment);
         Ok(())
     }
 
@@ -133,12 +134,13 @@ impl Sockets {
         let Some((group, before)) = self.named.find(name) else {
             return Err(SocketFault::NoSocket);
         };
-        let after = share_of(filter);
+        let after = filter.sources().len();
         if let Some(fault) = limit_passed(
-            &self.groups,
+            &self.named,
+            &self.farewells,
             &group,
-            before.sources,
-            after.sources,
+            before,
+            after,
             moment,
         ) {
             return Err(fault);
@@ -148,8 +150,9 @@ impl Sockets {
             Err(_) => return Err(SocketFault::Memory),
         };
         self.moment = moment;
+        let wanted = self.named.wants(&group);
         self.named.set_filter(name, copy);
-        self.groups.change(&group, before, after, moment);
+        self.farewells.follow(&self.named, &group, wanted, moment);
         Ok(())
     }
 
@@ -170,12 +173,14 @@ impl Sockets {
 
         ensures same { OnErr result (self.new ≡ self.old) }
     {
-        let Some((group, share)) = self.named.find(name) else {
+        let Some((group, _)) = self.named.find(name) else {
             return Err(NoSocket);
         };
         self.moment = self.moment.later(at);
+        let wanted = self.named.wants(&group);
         self.named.remove(name);
-        self.groups.remove(&group, share, self.moment);
+        self.farewells
+            .follow(&self.named, &group, wanted, self.moment);
         Ok(())
     }
 
@@ -191,8 +196,8 @@ impl Sockets {
             (with_call at.now LeaveAll history) self.old self.new) }
     {
         self.moment = self.moment.later(at);
+        self.farewells.leave_all(&self.named, self.moment);
         self.named.clear();
-        self.groups.leave_all(self.moment);
     }
 
     /// The filter of the group for all of its sockets (RFC 3376, section 3.2).
@@ -237,7 +242,7 @@ impl Sockets {
     {
         let family = if v6 { Family::V6 } else { Family::V4 };
         let moment = self.moment.later(at);
-        self.groups
+        self.farewells
             .report(alloc, &self.named, family, moment, keep_ms)
     }
 
@@ -265,7 +270,7 @@ impl Sockets {
         ensures { ForHistory self.now (λ history.
             result ≡ is_quiet history (moment_read at.now history) keep_ms) }
     {
-        self.named.is_empty() && !self.groups.some_recent(self.moment.later(at), keep_ms)
+        self.named.is_empty() && !self.farewells.some_recent(self.moment.later(at), keep_ms)
     }
 
     /// Equal sockets that own their memory.
@@ -275,32 +280,35 @@ impl Sockets {
         Ok(Sockets {
             moment: self.moment,
             named: self.named.copy(alloc)?,
-            groups: self.groups.copy(alloc)?,
+            farewells: self.farewells.copy()?,
         })
     }
 }
 
-// Puts a socket in and counts it, both or neither.
+// Puts a socket in, and what becomes of its group, both or neither.
 fn insert_both(
     named: &mut NamedSockets,
-    groups: &mut Groups,
+    farewells: &mut Farewells,
     alloc: Global,
     name: &[u8],
     group: &Ip,
     filter: &Filter,
+    moment: Moment,
 ) -> Result<(), AllocError>
     requires absent { socket_named name.now named.old ≡ None }
-    requires room { HasRoom (tally_at groups.old group.now) (length filter.now.sources) }
     ensures named { OnOk result (named.new ≡ named.old
         ++ record { name = name.now; group = group.now; filter = filter.now } ∷ []) }
-    ensures groups { OnOk result (HasTally group.now
-        (tally_with (share_of filter.now) (tally_at groups.old group.now)) groups.old groups.new) }
-    ensures needed { OnOk result (AreNeeded groups.new) }
+    ensures slot { OnOk result (HasSlot group.now (Some (left_after (some_wants group.now named.new)
+        (some_wants group.now named.old) moment (kept_at farewells.old group.now)))
+        farewells.old farewells.new) }
+    ensures ordered { OnOk result (IsAscending ip_order (keys_of farewells.new)) }
     ensures err_named { OnErr result (named.new ≡ named.old) }
-    ensures err_groups { OnErr result (groups.new ≡ groups.old) }
+    ensures err_farewells { OnErr result (farewells.new ≡ farewells.old) }
 {
+    let before = named.wants(group);
     named.insert(alloc, name, *group, copy_filter(alloc, filter)?)?;
-    let Ok(()) = groups.add(*group, share_of(filter)) else {
+    let left = left_after(named.wants(group), before, moment, farewells.left(group));
+    let Ok(()) = farewells.put(*group, left) else {
         named.remove_last();
         return Err(AllocError);
     };

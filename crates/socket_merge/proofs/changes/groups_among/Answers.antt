@@ -2,7 +2,7 @@ use Rattle.std.proofs.{Common.{rules, ◌≡◌, ◌++◌, List, filter, map, su
 use Rattle.amt_values.{specs.{declared.address.Ip.{Ip}, Order.{ip_order}, Ascending.{ascending}}, proofs.{Orders.{ip_order-exact, ip_order-total}, Sorting.{ascending-sorted}}}
 use Rattle.source_filter.proofs.Compared.{compared, tied}
 use Rattle.group_records.specs.Written.{is_of_family}
-use Rattle.socket_merge.proofs.Changed.{group_of}
+use Rattle.socket_merge.proofs.ByGroup.{group_of}
 use Rattle.socket_merge.proofs.changes.groups_among.Goals as goal
 
 pub returns : goal.returns

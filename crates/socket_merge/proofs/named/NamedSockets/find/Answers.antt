@@ -1,27 +1,26 @@
-use Rattle.std.{proofs.Common.{List, Some, Bor, ap, sym, refl, ◌∙◌}, specs.Option.{option_map}}
+use Rattle.std.{proofs.Common.{ℕ, List, Some, Bor, length, ap, sym, refl, ◌∙◌}, specs.Option.{option_map}}
 use Rattle.amt_values.specs.declared.address.Ip.{Ip}
-use Rattle.socket_merge.{specs.{History.{Socket, same_name, socket_named}, Kept.{share_of}, declared.stored.{Share.{Share}, StoredSocket.{StoredSocket}}}, proofs.NamedOnes.{found-lookup}}
+use Rattle.socket_merge.{specs.{History.{Socket, same_name, socket_named}, declared.stored.StoredSocket.{StoredSocket}}, proofs.NamedOnes.{found-lookup}}
 use Rattle.socket_merge.proofs.named.NamedSockets.find.Goals as goal
 
-abbrev found : Socket → Ip × Share
-found socket = (socket.group, share_of socket.filter)
+abbrev found : Socket → Ip × ℕ
+found socket = (socket.group, length socket.filter.sources)
 
-abbrev stored : StoredSocket → Ip × Share
-stored socket = (socket.group, share_of socket.filter)
+abbrev stored : StoredSocket → Ip × ℕ
+stored socket = (socket.group, length socket.filter.sources)
 
-pub returns-in_err-socket-clause-found : goal.returns-in_err-socket-clause-found
-returns-in_err-socket-clause-found c =
+pub returns-in_err-socket : goal.returns-in_err-socket
+returns-in_err-socket c =
     let name = c.args.name.now in
     c.from_residual.ensures
     ∙ ap (option_map stored) (sym (ap (option_map (λ (x : Bor StoredSocket). x.now)) (c.in_err-socket.was)) ∙ c.get.ensures.value)
     ∙ sym (found-lookup (same_name name) found stored (λ e. refl) c.self.inside.sockets.entries)
     ∙ ap (λ (sockets : List Socket). option_map found (socket_named name sockets)) c.self.view_is
 
-pub returns-clause-found : goal.returns-clause-found
-returns-clause-found c =
+pub returns : goal.returns
+returns c =
     let name = c.args.name.now in
-    let socket = c.in_ok-socket.socket.now in
-    ap (λ (share : Share). Some (socket.group, share)) c.share_of.ensures
+    ap (λ (sources : List Ip). Some (c.in_ok-socket.socket.now.group, length sources)) c.sources.ensures.listed
     ∙ ap (option_map stored) (sym (ap (option_map (λ (x : Bor StoredSocket). x.now)) (c.in_ok-socket.was)) ∙ c.get.ensures.value)
     ∙ sym (found-lookup (same_name name) found stored (λ e. refl) c.self.inside.sockets.entries)
     ∙ ap (λ (sockets : List Socket). option_map found (socket_named name sockets)) c.self.view_is
