@@ -1,4 +1,4 @@
--- Membership reports of IGMPv3, whose checksum has no pseudo-header (RFC 3376, section 4.2).
+-- Membership reports of IGMP, whose checksum has no pseudo-header (RFC 3376, sections 4.2 and 7.3.2).
 use Rattle.std.specs.Prelude.{ℕ, List, [], All, Option, Result}
 use Rattle.source_filter.specs.{declared.record.Record.{Record}, declared.fault.ReportFault.{ReportFault}}
 use Rattle.group_records.specs.{declared.family.Family.TheVariants.{V4}, Report.{IsReport}, Reading.{AsksMemory, first_report_fault, report_of}, Written.{IsOfFamily, report_length, written_report}}

@@ -1,4 +1,4 @@
--- Membership reports of MLDv2 between two addresses (RFC 3810, section 5.2).
+-- Membership reports of MLD between two addresses (RFC 3810, sections 5.2 and 8.3.2).
 use Rattle.std.specs.Prelude.{ℕ, List, length, All, Option, Result}
 use Rattle.source_filter.specs.{declared.record.Record.{Record}, declared.fault.ReportFault.{ReportFault}}
 use Rattle.group_records.specs.{declared.family.Family.TheVariants.{V6}, Report.{IsReport}, Reading.{AsksMemory, first_report_fault, report_of}, Written.{IsOfFamily, report_length, written_report}}

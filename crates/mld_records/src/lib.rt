@@ -1,11 +1,11 @@
-//! MLDv2 messages, whose checksum has the pseudo-header of IPv6, and the codes in which they carry
+//! MLD messages, whose checksum has the pseudo-header of IPv6, and the codes in which they carry
 //! times.
 //!
 //! Contract: a written query is the one spelling of its fields and is read back to them, and so is a
 //! written report of its records; a payload between two addresses is a query of at most one list of
 //! values and a report of at most one list of records, and a time has at most one code.
 //! It knows no datagram, tunnel or moment.
-//! Standard: RFC 3810, sections 5.1 and 5.2; RFC 8200, section 8.1.
+//! Standards: RFC 3810, sections 5.1, 5.2 and 8.3.2; RFC 2710, section 3; RFC 8200, section 8.1.
 #![tactic(auto)]
 
 mod code;

@@ -7,8 +7,8 @@ use Rattle.igmp_records.specs.Report.{IsReport4}
 use Rattle.mld_records.specs.Report.{IsReport6}
 
 -- what a datagram between these addresses carries is a report of exactly these records: over IPv4 of
--- IGMPv3 (RFC 3376, section 4.2), and over IPv6 of MLDv2, whose checksum counts the addresses
--- (RFC 3810, section 5.2)
+-- IGMP (RFC 3376, sections 4.2 and 7.3.2), and over IPv6 of MLD, whose checksum counts the addresses
+-- (RFC 3810, sections 5.2 and 8.3.2)
 abbrev pub IsReportBetween : Ip → Ip → List Record → List ℕ → Type 0
 IsReportBetween (V4 source) destination records payload = IsReport4 records payload
 IsReportBetween (V6 source) destination records payload = IsReport6 source (number_of destination) records payload

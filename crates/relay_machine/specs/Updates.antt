@@ -13,8 +13,8 @@ report_by (Some fault) reading = Err (Inner fault)
 report_by None (Err fault) = Err (Report fault)
 report_by None (Ok records) = Ok records
 
--- what a datagram between these addresses carries: over IPv6 a report of MLDv2, which is summed with
--- them (RFC 3810, section 5.2), and over IPv4 one of IGMPv3
+-- what a datagram between these addresses carries: over IPv6 a report of MLD, which is summed with
+-- them (RFC 3810, section 5.2), and over IPv4 one of IGMP
 abbrev pub carried_report : Ip → Ip → List ℕ → Result (List Record) ReportFault
 carried_report (V4 source) destination payload = report4_of payload
 carried_report (V6 source) destination payload = report6_of source (number_of destination) payload

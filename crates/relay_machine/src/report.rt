@@ -19,8 +19,8 @@ pub enum Unread {
     Memory,
 }
 
-// The records of the membership report that a datagram carries: of MLDv2 over IPv6, whose checksum
-// counts the datagram's addresses, and else of IGMPv3.
+// The records of the membership report that a datagram carries: of MLD over IPv6, whose checksum
+// counts the datagram's addresses, and else of IGMP.
 fn read_carried(alloc: Global, place: &Inner, payload: &[u8]) -> Result<Records, ReadFault>
     requires { length payload.now ≤ 65535 }
     ensures value { GivesRecords result
