@@ -16,10 +16,10 @@ tried again, each by itself and from nothing.
 
 It prints each wrong body that isn't refused, or that can't be applied or read; with --times each is checked by itself, and
 what it took is printed besides.
-What was refused is noted in tools/refused.txt by a sum of the kit's logic, the edit and all sources that its crate reads, and isn't
-tried again while these stay the same; with --anew it is. The file is committed with the sources, so that a try on another
-machine, or in an earlier session, isn't lost. --due tries nothing, and prints what isn't noted so. The last line is `N refused,
-M not`, and the status is 1 where M isn't 0.
+What was refused is noted in tools/refused.txt by a sum of the kit's logic, the edit, its crate's sources and what these can see
+of the crates below (tools/seen.py), and isn't tried again while these stay the same; with --anew it is. The file is committed
+with the sources, so that a try on another machine, or in an earlier session, isn't lost. --due tries nothing, and prints what
+isn't noted so. The last line is `N refused, M not`, and the status is 1 where M isn't 0.
 """
 import fcntl
 import hashlib
@@ -32,6 +32,7 @@ import threading
 import time
 
 import build
+import seen
 
 ROOT = build.ROOT
 NOTES = f"{ROOT}/tools/refused.txt"
@@ -41,12 +42,10 @@ PARTS = ("src", "specs", "proofs")
 # The kit's logic, by its sum. Kits of one logic may still search differently: before a release all are tried with --anew.
 LOGIC = subprocess.run(["rt", "version"], capture_output=True, check=True).stdout.partition(b" logic ")[2].strip()
 # Is one more whenever this tool takes something else for a refusal: what was noted before counts no more then.
-RULE = 1
+RULE = 2
 # The most edits of a crate that are checked in one go, and how many a lane tries before it checks the crate as it stands.
 AT_ONCE, BETWEEN = 12, 16
 FUNCTION_NAME = re.compile(r"\bfn (\w+)")
-# The first line of a function, where `rt fmt` has laid it out, and its indentation.
-FUNCTION = re.compile(r"( *)(?:pub(?:\([^)]*\))? )?(?:[a-z]+ )*fn \w")
 # What the checker says of a text that it can't read, where a wrong body is to be read and refused.
 UNREAD = re.compile(r"is not in scope|has no field|is no name|operand is missing|expected the end|cannot continue")
 # An error in a text of ours: its place, the declaration that it is in, where it names one, and what it says.
@@ -81,15 +80,15 @@ def files_of(crate):
 
 
 def sum_of(crate, direct):
-    """A sum of the kit's logic, of what counts as a refusal, and of all sources that a check of the crate reads."""
+    """A sum of the kit's logic, of what counts as a refusal, of the crate's sources, and of what they can see of those below."""
     whole = hashlib.sha256(LOGIC + str(RULE).encode())
     names = {crate, *build.below(crate, direct)}
     lines = text_of(f"{ROOT}/crates.txt").split("\n")
     whole.update(repr([line for line in lines if names & set(line.partition(":")[0].split()[:1])]).encode())
-    for it in sorted([crate, *build.below(crate, direct)]):
+    for it in sorted(names):
         for path in files_of(it):
-            with open(path, "rb") as text:
-                whole.update(repr((os.path.relpath(path, ROOT), text.read())).encode())
+            text = text_of(path) if it == crate else seen.of_file(path)
+            whole.update(repr((os.path.relpath(path, ROOT), text)).encode())
     return whole.hexdigest()
 
 
@@ -114,36 +113,14 @@ def changed_by(edit, crate):
     return (texts, None) if texts else (None, "it changes nothing")
 
 
-def is_left_of(margin, line):
-    return bool(line.strip()) and not line.startswith(margin)
-
-
-def functions_of(text):
-    """The functions of a text as `rt fmt` lays it out: the number of the first line, of the body's brace and of the last line."""
-    lines, found, at = text.split("\n"), [], 0
-    while at < len(lines):
-        begins = FUNCTION.match(lines[at])
-        margin = begins[1] if begins and not lines[at].endswith((";", "}")) else None
-        at += 1
-        if margin is None:
-            continue
-        beyond = next((it for it in range(at, len(lines)) if FUNCTION.match(lines[it]) or is_left_of(margin, lines[it])), len(lines))
-        body = next((it for it in range(at - 1, beyond) if lines[it].endswith("{") and re.match(margin + r"\S", lines[it])), None)
-        end = next((it for it in range(body or at, len(lines)) if lines[it] == margin + "}"), None)
-        if body is not None and end is not None:
-            found.append((at, body + 1, end + 1))
-            at = end + 1
-    return found
-
-
 def span_of(text, first):
     """Where the function's body begins, and its last line; that line alone, where no function begins there."""
-    return next(((body, last) for at, body, last in functions_of(text) if at == first), (first, first))
+    return next(((body, last) for at, body, last in seen.functions_of(text) if at == first), (first, first))
 
 
 def name_in(text, path, first, crate):
     """What the prover may call the function at this line: none, where the file has another of its name."""
-    named = {at: FUNCTION_NAME.search(text.split("\n")[at - 1])[1] for at, _, _ in functions_of(text)}
+    named = {at: FUNCTION_NAME.search(text.split("\n")[at - 1])[1] for at, _, _ in seen.functions_of(text)}
     name, module = named.get(first), "::".join([crate, *path.removeprefix("src/").removesuffix(".rt").split("/")])
     if list(named.values()).count(name) != 1:
         return set()
@@ -162,7 +139,7 @@ def place_of(edit, crate):
     changed = [at for at, (old, it) in enumerate(zip(before, after), 1) if old != it]
     if len(before) != len(after):
         return None
-    return next(((path, first) for first, body, last in functions_of(text) if all(body < at < last for at in changed)), None)
+    return next(((path, first) for first, body, last in seen.functions_of(text) if all(body < at < last for at in changed)), None)
 
 
 def calls_in(crate, edits):
@@ -171,7 +148,7 @@ def calls_in(crate, edits):
     names_in, named = {}, {}
     for file in files_of(crate):
         path, lines = os.path.relpath(file, f"{ROOT}/crates/{crate}"), text_of(file).split("\n")
-        for first, body, last in functions_of("\n".join(lines)) if path.endswith(".rt") else ():
+        for first, body, last in seen.functions_of("\n".join(lines)) if path.endswith(".rt") else ():
             names_in[path, first] = set(CALL.findall("\n".join(lines[body - 1:last])))
             named.setdefault(FUNCTION_NAME.search(lines[first - 1])[1], set()).add((path, first))
     for edit in edits:
