@@ -88,7 +88,7 @@ report_head_faults family pseudo_header payload =
 abbrev pub record_count : List ℕ → ℕ
 record_count payload = big_number 2 (drop 6 payload)
 
--- what is wrong with its records, one after another; an older message has none that may be
+-- what is wrong with its records, one after another; those of an older message have no fault
 abbrev pub later_record_faults : Option RecordKind → Family → List ℕ → Conditions ReportFault
 later_record_faults None family payload = all_record_faults family 0 (record_count payload) (drop 8 payload)
 later_record_faults (Some older) family payload = []

@@ -5,7 +5,8 @@
 //! spelling of its records and is read back to them, and so is a written General Query of its fields.
 //! A time has at most one code.
 //! It knows no datagram's layout, no tunnel or moment. The checksum it takes from inner_datagrams.
-//! Standard: RFC 3376, sections 4.1 and 4.2; RFC 3810, sections 5.1 and 5.2.
+//! Standards: RFC 3376, sections 4.1, 4.2 and 7.3.2; RFC 3810, sections 5.1, 5.2 and 8.3.2; RFC 2236, section 2;
+//! RFC 2710, section 3.
 #![tactic(auto)]
 
 mod code;

@@ -146,8 +146,8 @@ fn read(
 /// The pseudo-header is summed before the payload: it is empty in IGMP, and in MLD the 40 octets of
 /// RFC 8200, section 8.1. The faults are tried in the order of `ReportFault`. Reserved octets, and
 /// what follows the last record or an older message's group, may be any. A record of unknown type is
-/// skipped (RFC 3376, section 4.2.12). Memory is asked for the records that are kept; running out may come before a later
-/// record's fault.
+/// skipped (RFC 3376, section 4.2.12). Memory is asked for the records that are kept; running out may
+/// come before a later record's fault.
 pub fn read_report(
     alloc: Global,
     family: Family,
