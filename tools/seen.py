@@ -1,10 +1,11 @@
 """What the crates above can see of a source file.
 
-They read its definitions, its types, the heads of its functions with their contracts, and the statements of the proofs that it
-exports. A body, a proof, and a statement that only its own file can cite aren't seen; nor are comments, and of what is imported
-only the names that stand in what is seen. The layout is that of `rt fmt`.
+They read its definitions, its types, the heads of its functions with their contracts, and of its proofs the statements of those
+files that another crate cites. A body, a proof, and a statement that only its own file can cite aren't seen; nor are comments, and
+of what is imported only the names that stand in what is seen. The layout is that of `rt fmt`.
 """
 import functools
+import os
 import re
 
 # The first line of a function, where `rt fmt` has laid it out, and its indentation.
@@ -87,18 +88,62 @@ def paths_in(tree, before=""):
             yield other or re.split(r"[.:]", path)[-1], before + path
 
 
-@functools.cache
-def of_file(path):
-    """A text that is the same as long as what can be seen of the file is."""
+def text_of(path):
     with open(path, encoding="utf-8") as it:
-        text = it.read()
-    if path.endswith(("/Answers.antt", "/Invariants.antt")):
-        # (they are of one function, and nothing else cites them)
-        return ""
-    kind = path[path.rindex("."):]
+        return it.read()
+
+
+def while_it_stands(read):
+    """Reads a file once, and once more whenever it has changed."""
+    kept = functools.cache(lambda path, changed: read(path))
+    return lambda path: kept(path, os.stat(path).st_mtime_ns)
+
+
+def imports_in(kind, text):
+    return {it for tree in IMPORTS[kind].findall(text) for it in paths_in(tree)}
+
+
+@while_it_stands
+def of_file(path):
+    """What can be seen of a file, and what it imports for that: names, each with its path."""
+    text, kind = text_of(path), path[path.rindex("."):]
     lines = without_bodies(text) if kind == ".rt" else without_proofs(text)
     kept = "\n".join(line for line in lines if not line.lstrip().startswith(("--", "//")))
     seen = "\n".join(line for line in IMPORTS[kind].sub("", kept).split("\n") if line.strip())
     words = set(WORD.findall(seen))
-    named = {it for tree in IMPORTS[kind].findall(kept) for it in paths_in(tree)}
-    return seen + repr(sorted(it for it in named if it[0] in words or it[0] == "TheVariants"))
+    return seen, sorted(it for it in imports_in(kind, kept) if it[0] in words or it[0] == "TheVariants")
+
+
+@while_it_stands
+def cited_by(path):
+    return {it for _, it in imports_in(path[path.rindex("."):], text_of(path))}
+
+
+def place_of(path):
+    """The crate of a file, and its place in it."""
+    return path.partition("/crates/")[2].split("/", 1)
+
+
+def proof_in(cited, proofs):
+    """The file of proofs, of those by their modules, in which what has this path stands."""
+    parts = cited.split(".")
+    return next((proofs[it] for it in (".".join(parts[:end]) for end in range(len(parts) - 1, 3, -1)) if it in proofs), None)
+
+
+def of_files(crate, files):
+    """What the crate has, and what it can see of the crates below, by the files of all."""
+    below = [it for it in files if place_of(it)[0] != crate]
+    places = {it: place_of(it) for it in below}
+    proofs = {f"Rattle.{name}.{rest[:-5].replace('/', '.')}": it for it, (name, rest) in places.items() if rest.startswith("proofs/")}
+    # (those that another crate cites, and those by which these say what they state)
+    left = {proof_in(it, proofs) for path in files for it in cited_by(path) if it.split(".")[1:2] != place_of(path)[:1]}
+    taken = {None}
+    while left - taken:
+        path = (left - taken).pop()
+        taken.add(path)
+        left |= {proof_in(it, proofs) for _, it in of_file(path)[1]}
+    for it in files:
+        if it not in places:
+            yield it, text_of(it)
+        elif it in taken or not places[it][1].startswith("proofs/"):
+            yield it, of_file(it)

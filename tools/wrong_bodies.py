@@ -85,10 +85,9 @@ def sum_of(crate, direct):
     names = {crate, *build.below(crate, direct)}
     lines = text_of(f"{ROOT}/crates.txt").split("\n")
     whole.update(repr([line for line in lines if names & set(line.partition(":")[0].split()[:1])]).encode())
-    for it in sorted(names):
-        for path in files_of(it):
-            text = text_of(path) if it == crate else seen.of_file(path)
-            whole.update(repr((os.path.relpath(path, ROOT), text)).encode())
+    files = [path for it in sorted(names) for path in files_of(it)]
+    for path, text in seen.of_files(crate, files):
+        whole.update(repr((os.path.relpath(path, ROOT), text)).encode())
     return whole.hexdigest()
 
 
