@@ -1,5 +1,5 @@
 -- Accepted calls keep histories lawful: names apart, sources of their families, and counts within the limits.
-use Rattle.std.{proofs.{Common.{◌≡◌, ℕ, ◌≤◌, Bool, true, false, not, cond, is_some, List, [], ◌∷◌, ◌++◌, filter, length, Option, Some, None, refl, sym, ap, subst, ◌∙◌, append-nil, arith}, lemmas.{Bool.{ltb-false}, List.{Elements.{All-cons, All-filter, All-head, All-nil, All-push, All-tail, filter-append}, Filters.{sum_by-filter_both}, Sums.{sum_by_push}}}}, specs.List.{All, flat_map}}
+use Rattle.std.{proofs.{Common.{◌≡◌, ℕ, ◌≤◌, Bool, true, false, not, cond, is_some, List, [], ◌∷◌, ◌++◌, filter, length, Option, Some, None, refl, sym, ap, subst, ◌∙◌, append-nil, arith}, lemmas.{Bool.{cond-false, ltb-false}, List.{Elements.{All-cons, All-filter, All-head, All-nil, All-push, All-tail, filter-append}, Filters.{sum_by-filter_both}, Sums.{sum_by_push}}}}, specs.List.{All, flat_map}}
 use Rattle.amt_values.{specs.{declared.address.Ip.{Ip}, Group.{is_forwardable}, Conditions.{first_holding}}, proofs.ConditionLaws.{NoneHolds-of, skipped}}
 use Rattle.source_filter.specs.Filter.{FilterValue}
 use Rattle.group_records.specs.{Written.{is_of_family}, declared.family.Family.{Family}}
@@ -127,11 +127,6 @@ MayCall (Change name filter) sockets = (socket : Socket) → socket_named name s
 MayCall (Close name) sockets = Unit {0}
 MayCall LeaveAll sockets = Unit {0}
 
--- the term of a socket that doesn't count
-no_term : (of : Bool) (number : ℕ) → of ≡ false → cond of number 0 ≡ 0
-no_term true number apart = absurd cc
-no_term false number apart = refl
-
 All-again : (P : Socket → Type 0) (before after : List Socket) (one other : Socket) → P other → All P (before ++ one ∷ after) → All P (before ++ other ∷ after)
 All-again P [] after one other is all = All-cons P other after is (All-tail P one after all)
 All-again P (first ∷ more) after one other is all =
@@ -142,18 +137,16 @@ lawful_changed : (at : ℕ) (name : List ℕ) (filter : FilterValue) (history : 
 lawful_changed at name filter history None lawful may is free = absurd cc
 lawful_changed at name filter history (Some socket) lawful may is free =
     let sockets = open_sockets history in
-    let closed = sockets_after (Close name) sockets in
-    let changed : FilterValue → List Socket = λ one. sockets_after (Change name one) sockets in
     let named : HasName name socket sockets = HasName-of name socket sockets (lawful.apart name) is in
     record {
-      apart = AreApart-changed socket sockets closed changed named filter lawful.apart;
+      apart = AreApart-changed name socket sockets named filter lawful.apart;
       forwarded = lawful.forwarded;
       family = subst (All IsOfOwnFamily) (sym (named.again filter))
           (All-again IsOfOwnFamily named.before named.after socket (with_filter filter socket) (may socket is) (subst (All IsOfOwnFamily) named.whole lawful.family));
-      limits = limits-one (read_at at (Change name filter) history) history socket.group (omega arith) free (kept-changed socket sockets closed changed named filter)
+      limits = limits-one (read_at at (Change name filter) history) history socket.group (omega arith) free (kept-changed name socket sockets named filter)
           (λ family apart.
           let measure : Socket → ℕ = λ one. cond (is_of_family family one.group) (length one.filter.sources) 0 in
-          omega (arith, sum-closed socket sockets closed changed named measure, sum-changed socket sockets closed changed named measure filter, no_term (is_of_family family socket.group) (length filter.sources) apart)) lawful.limits;
+          omega (arith, sum-closed name socket sockets named measure, sum-changed name socket sockets named measure filter, cond-false (is_of_family family socket.group) (length filter.sources) 0 apart)) lawful.limits;
     }
 
 -- accepted calls leave a lawful history
@@ -169,7 +162,7 @@ IsLawful-next at (Open name group filter) history lawful may free =
       forwarded = All-cons (λ one. is_forwardable one ≡ true) group (groups_opened history) may.0 lawful.forwarded;
       family = All-push IsOfOwnFamily sockets socket lawful.family may.1;
       limits = limits-one (read_at at (Open name group filter) history) history group (omega arith) rest.1 (kept-opened sockets socket)
-          (λ family apart. omega (arith, sum_by_push (λ (one : Socket). cond (is_of_family family one.group) (length one.filter.sources) 0) sockets socket, no_term (is_of_family family group) (length filter.sources) apart)) lawful.limits;
+          (λ family apart. omega (arith, sum_by_push (λ (one : Socket). cond (is_of_family family one.group) (length one.filter.sources) 0) sockets socket, cond-false (is_of_family family group) (length filter.sources) 0 apart)) lawful.limits;
     }
 IsLawful-next at (Change name filter) history lawful may free =
     lawful_changed at name filter history (socket_named name (open_sockets history)) lawful may refl free
