@@ -1,9 +1,9 @@
 -- Sums over sockets, and the socket of a name among the others.
-use Rattle.std.{proofs.{Common.{◌≡◌, ℕ, ◌+◌, ◌≤◌, ◌<◌, zero, suc, get_or, set, Bool, true, false, not, cond, List, [], ◌∷◌, ◌++◌, length, map, filter, Option, Some, None, refl, sym, ap, ◌∙◌, arith}, lemmas.{List.{Elements.{All-cons, All-head, All-tail, filter-append}, Filters.{sum_by-filter_both}, Sums.{get_or-le-sum_by, sum_by-append, sum_by-cons, sum_by_push}}, Slice.Eq.{bytes_eq-Decides}}}, specs.List.{All, count_by, find, sum_by}}
+use Rattle.std.{proofs.{Common.{◌≡◌, ℕ, ◌+◌, ◌≤◌, ◌<◌, zero, suc, get_or, set, Bool, true, false, not, cond, List, [], ◌∷◌, ◌++◌, length, filter, Option, Some, None, refl, sym, ap, ◌∙◌, arith}, lemmas.{List.{Elements.{All-head, All-tail, filter-append}, Filters.{sum_by-filter_both}, Sums.{get_or-le-sum_by, sum_by-append, sum_by-cons, sum_by_push}}, Slice.Eq.{bytes_eq-Decides}}}, specs.List.{All, count_by, find, sum_by}}
 use Rattle.amt_values.specs.declared.address.Ip.{Ip}
 use Rattle.source_filter.specs.Filter.{FilterValue}
 use Rattle.socket_merge.proofs.Wanted.{same_group-itself}
-use Rattle.socket_merge.specs.{History.{Change, Close, Socket, refiltered, same_name, socket_named, sockets_after}, Interface.{on_group, same_group}}
+use Rattle.socket_merge.specs.{History.{Change, Close, Socket, same_name, socket_named, sockets_after}, Interface.{on_group, same_group}}
 
 sum_by-cond : {X : Type 0} (f : X → ℕ) (test : Bool) (x : X) (xs : List X) → sum_by f (cond test (x ∷ xs) xs) ≡ cond test (f x) 0 + sum_by f xs
 sum_by-cond f true x xs = sum_by-cons f x xs

@@ -1,5 +1,5 @@
 -- Which groups have sockets, and were opened; sums and texts by group.
-use Rattle.std.proofs.Common.{◌≡◌, ℕ, ◌+◌, Bool, true, false, not, ◌&&◌, ◌||◌, cond, List, [], ◌∷◌, ◌++◌, filter, length, map, Option, Some, None, if◌then◌else◌, refl, sym, ap, subst, ◌∙◌, arith}
+use Rattle.std.proofs.Common.{◌≡◌, ℕ, ◌+◌, Bool, true, false, not, ◌&&◌, ◌||◌, cond, List, [], ◌∷◌, ◌++◌, filter, length, map, Option, Some, None, if◌then◌else◌, refl, sym, ap, ◌∙◌, arith}
 use Rattle.std.{proofs.lemmas.{Bool.{cond_both, false_from_ne_true, or_right}, Cmp.{eq_by_cmp_equiv}, List.{Folds.{list_any_none}, Elements.{All-from_recursion, All-filter, All-head, All-map, All-nil, All-push, All-tail, All-weaker}, Sums.{sum_by-cons}}, Map.Keys.{IsDistinct-head, IsDistinct-tail}}, specs.List.{All, IsDistinct, flat_map, list_any, sum_by}}
 use Rattle.std.specs.Ordering.{eq_by_cmp}
 use Rattle.amt_values.{specs.{declared.address.Ip.{Ip}, Order.{ip_order}, Ascending.{IsAscending, has}}, proofs.{Orders.{ip_order-exact, ip_order-total}, AscendingLaws.{IsAscending-filter, has-append, has-filter, same_ascending}}}

@@ -14,7 +14,6 @@ pub record KeptFor (moment : ℕ) (sockets : List Socket) (slots : List (Ip × O
   pub now : moment ≡ latest history
   pub same : sockets ≡ open_sockets history
   pub are : AreSlots sockets slots (left_in (farewells_in slots))
-  pub stands : Stands history (left_in (farewells_in slots))
   pub apart : AreApart sockets
   pub limits : IsWithinLimits history
   pub kept : IsKeptBy history slots
@@ -48,7 +47,6 @@ keeps moment sockets slots history sound holds = record {
   now = holds.moment;
   same = holds.sockets;
   are = AreSlots-back sockets slots sound.back;
-  stands = holds.farewells;
   apart = subst AreApart (sym sound.holds.sockets) sound.lawful.apart;
   limits = limits-same moment sockets slots sound.history history sound.holds holds sound.lawful.limits;
   kept = record { back = subst (λ (all : List Socket). slots_of all (farewells_in slots) ≡ slots) holds.sockets sound.back; stands = holds.farewells };
@@ -108,7 +106,7 @@ after_one at call history moment later sockets after slots new group keeps now r
     ∙ ap (λ (before : Bool). left_after (is_wanted (newest ∷ history) group) before later (kept_at slots group)) (wanted-is history sockets group keeps.same)
     ∙ ap (λ (one : ℕ). left_after (is_wanted (newest ∷ history) group) (is_wanted history group) one (kept_at slots group)) read
     ∙ ap (left_after (is_wanted (newest ∷ history) group) (is_wanted history group) newest.moment) (kept-is sockets slots left keeps.are group) in
-    let followed = AreFollowed-one newest history left group own keeps.stands
+    let followed = AreFollowed-one newest history left group own keeps.kept.stands
     (λ other apart. ap (on_group other) (sym same) ∙ others other apart ∙ ap (on_group other) keeps.same) follow in
     let lefts : Ip → Option ℕ = λ other. cond (same_group group other) own (left other) in (
       lefts,
@@ -117,7 +115,7 @@ after_one at call history moment later sockets after slots new group keeps now r
         now = read;
         same = same;
         are = AreSlots-one sockets after slots new left group own keeps.are ordered is others;
-        stands = Stands-next newest history left lefts (omega arith) keeps.stands followed;
+        stands = Stands-next newest history left lefts (omega arith) keeps.kept.stands followed;
       },
     )
 
@@ -139,7 +137,7 @@ after_all at history moment later sockets slots new keeps now ordered is =
         now = read;
         same = refl;
         are = AreSlots-left sockets slots new left later keeps.are ordered is;
-        stands = Stands-next newest history left lefts (omega arith) keeps.stands followed;
+        stands = Stands-next newest history left lefts (omega arith) keeps.kept.stands followed;
       },
     )
 
@@ -148,7 +146,7 @@ pub keeps_farewells : (at : ℕ) (call : SocketCall) (history : List AcceptedCal
     → KeptFor moment sockets slots history → AreFollowed (read_at at call history) history (left_in (farewells_in slots)) left → IsAfter (read_at at call history) history later after slots new left
     → KeepsFarewells (with_call at call history) (value_of moment sockets slots) (value_of later after new)
 keeps_farewells at call history moment later sockets after slots new left keeps follow is group one kept unwanted =
-    left_in-is after new left is.are group ∙ farewell_stays (read_at at call history) history (left_in (farewells_in slots)) left keeps.stands follow group one kept unwanted
+    left_in-is after new left is.are group ∙ farewell_stays (read_at at call history) history (left_in (farewells_in slots)) left keeps.kept.stands follow group one kept unwanted
 
 due_by : (test : Bool) (left : Option ℕ) (later moment : ℕ) → may_be_due later left ≡ test → cond test left None ≡ Some moment → later ≤ moment + longest_farewell
 due_by true None later moment due is = absurd cc

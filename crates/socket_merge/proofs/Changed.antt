@@ -1,5 +1,5 @@
 -- The change records from some sockets to others: those of calls, and whose they are.
-use Rattle.std.{proofs.{Common.{◌≡◌, ℕ, Bool, true, false, not, cond, List, [], ◌∷◌, ◌++◌, filter, map, refl, sym, ap, subst, ◌∙◌}, lemmas.{Bool.{or_parts}, List.{map-append, Elements.{All-append, All-cons, All-filter, All-nil}}}}, specs.List.{All, flat_map}}
+use Rattle.std.{proofs.{Common.{◌≡◌, ℕ, true, false, not, cond, List, [], ◌∷◌, ◌++◌, filter, map, refl, sym, ap, subst, ◌∙◌}, lemmas.{Bool.{or_parts}, List.{map-append, Elements.{All-append, All-cons, All-filter, All-nil}}}}, specs.List.{All, flat_map}}
 use Rattle.amt_values.{specs.{declared.address.Ip.{Ip}, Group.{is_forwardable}, Order.{ip_order}, Ascending.{ascending, difference, has}}, proofs.{Orders.{ip_order-total}, AscendingLaws.{IsAscending-ascending, has-append, has-ascending}}}
 use Rattle.source_filter.specs.{Changes.{changes_by, changes_on, record_of_some}, Filter.{FilterValue}, Merging.{merged}, declared.mode.Mode.{Mode, TheVariants.{Include, Exclude}}, declared.record.{Record.{Record}, RecordKind.{RecordKind, TheVariants.{ToIn, ToEx, Allow, Block}}}}
 use Rattle.group_records.specs.{Written.{IsOfFamily, is_of_family}, declared.family.Family.{Family}}

@@ -77,10 +77,6 @@ followed_by true moment group other wanted before left kept same others none is 
 followed_by false moment group other wanted before left kept same others none is =
     stays_by (before other) moment (kept other) none ∙ ap (λ (now : Bool). left_after now (before other) moment (kept other)) (sym (others refl))
 
--- some of the sockets wants a source
-abbrev some_on : List Socket → Bool
-some_on sockets = list_any wants_any (map (λ (socket : Socket). socket.filter) sockets)
-
 -- a call that changes the sockets of one group
 pub AreFollowed-one : (newest : AcceptedCall) (history : List AcceptedCall) (kept : Ip → Option ℕ) (group : Ip) (left : Option ℕ) → Stands history kept
     → ((other : Ip) → same_group other group ≡ false → on_group other (open_sockets (newest ∷ history)) ≡ on_group other (open_sockets history))
@@ -89,7 +85,7 @@ pub AreFollowed-one : (newest : AcceptedCall) (history : List AcceptedCall) (kep
 AreFollowed-one newest history kept group left stands others is other =
     followed_by (same_group group other) newest.moment group other (is_wanted (newest ∷ history)) (is_wanted history) left kept (same_group-exact group other)
     (λ apart. wants_any-merged (filters_on other (open_sockets (newest ∷ history)))
-    ∙ ap (λ sockets. some_on sockets) (others other (same_group-turned other group ∙ apart))
+    ∙ ap (λ (sockets : List Socket). list_any wants_any (map (λ (socket : Socket). socket.filter) sockets)) (others other (same_group-turned other group ∙ apart))
     ∙ sym (wants_any-merged (filters_on other (open_sockets history))))
     (λ one. not_both history other (kept other) one (stands other)) is
 

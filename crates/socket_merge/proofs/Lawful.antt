@@ -6,15 +6,6 @@ use Rattle.group_records.specs.{Written.{is_of_family}, declared.family.Family.{
 use Rattle.socket_merge.specs.{FullReport.{is_empty}, History.{AcceptedCall, Change, Close, LeaveAll, Open, Socket, SocketCall, groups_opened, latest, open_sockets, socket_named, sockets_after, with_call}, Interface.{on_group, same_group}, Kept.{IsLawful, has_socket, listed, listed_in, listed_on}, Refusal.{FillsNoMore, IsWithinLimits, change_conditions, family_of, is_open, limit_conditions, limits_after, raw_report_length, raw_sources, refusal_of}, Sockets.{AreOfGroup}, declared.fault.SocketFault.{TheVariants.{Taken}}}
 use Rattle.socket_merge.proofs.{Amounts.{AreApart-changed, AreApart-filter, AreApart-opened, HasName, HasName-of, has_name, kept-changed, sum-changed, sum-closed, with_filter}, HoldsAfter.{read_at}, RawOctets.{TakesAway, family_is, raw-sum, raw-taken, raw_sources-listed}, Reports.{IsOfOwnFamily}, Wanted.{same_group-exact}}
 
--- within the limits
-pub record IsWithin (sources octets : ℕ) : Type 0 where
-  pub few : sources ≤ 32
-  pub short : octets ≤ 1400
-
-pub IsWithin-of : (sources octets : ℕ) → first_holding (limit_conditions sources octets) ≡ None → IsWithin sources octets
-IsWithin-of sources octets none =
-    let each = NoneHolds-of (limit_conditions sources octets) none in record { few = ltb-false 32 sources each.0; short = ltb-false 1400 octets each.1.0 }
-
 -- the sockets of the other groups are as they were
 abbrev pub AreOthersKept : Ip → List Socket → List Socket → Type 0
 AreOthersKept group before after = (other : Ip) → same_group other group ≡ false → on_group other after ≡ on_group other before
@@ -110,10 +101,12 @@ limits-one : (newest : AcceptedCall) (older : List AcceptedCall) (group : Ip) �
     → ((family : Family) → is_of_family family group ≡ false → listed_in family (open_sockets (newest ∷ older)) ≤ listed_in family (open_sockets older)) → IsWithinLimits older
     → IsWithinLimits (newest ∷ older)
 limits-one newest older group onward none others less limits =
-    let within = IsWithin-of (length (raw_sources group (open_sockets (newest ∷ older)))) (raw_report_length (family_of group) (newest ∷ older)) none in
+    let each = NoneHolds-of (limit_conditions (length (raw_sources group (open_sockets (newest ∷ older)))) (raw_report_length (family_of group) (newest ∷ older))) none in
+    let few = ltb-false 32 (length (raw_sources group (open_sockets (newest ∷ older)))) each.0 in
+    let short = ltb-false 1400 (raw_report_length (family_of group) (newest ∷ older)) each.1.0 in
     record {
-      sources = λ other. sources_by (same_group other group) group other (open_sockets older) (open_sockets (newest ∷ older)) refl within.few others (limits.sources other);
-      octets = λ family. octets_by (is_of_family family group) family newest older group refl onward within.short others (less family) (limits.octets family);
+      sources = λ other. sources_by (same_group other group) group other (open_sockets older) (open_sockets (newest ∷ older)) refl few others (limits.sources other);
+      octets = λ family. octets_by (is_of_family family group) family newest older group refl onward short others (less family) (limits.octets family);
     }
 
 none_found : (found : Option Socket) → is_some found ≡ false → found ≡ None

@@ -1,5 +1,5 @@
 -- Why calls are refused, by what is kept.
-use Rattle.std.{proofs.{Common.{◌≡◌, ℕ, ◌+◌, ◌-◌, ◌≤◌, max, Bool, true, false, not, ◌&&◌, ◌||◌, cond, is_some, List, [], ◌∷◌, ◌++◌, filter, length, map, Option, Some, None, Ok, Err, refl, sym, ap, subst, ◌∙◌, arith}, Math.Bool.{or-true}, lemmas.{Bool.{cond-true, or_parts}, Cmp.{eq_by_cmp_equiv}, List.{length-map, Sums.{sum_by_push}}, Map.{Keys.{IsDistinct-cons, IsDistinct-from_sorted}, Made.{length-from_same_keys}}}}, specs.{List.{AllByRecursion, sum_by}, Ordering.{eq_by_cmp}}}
+use Rattle.std.{proofs.{Common.{◌≡◌, ℕ, ◌+◌, ◌-◌, ◌≤◌, max, Bool, true, false, not, ◌&&◌, ◌||◌, cond, is_some, List, [], ◌∷◌, ◌++◌, filter, length, map, Option, Some, None, Ok, Err, refl, sym, ap, subst, ◌∙◌, arith}, Math.Bool.{and-false, or-false, or-true}, lemmas.{Bool.{cond-true, or_parts}, Cmp.{eq_by_cmp_equiv}, List.{length-map, Sums.{sum_by_push}}, Map.{Keys.{IsDistinct-cons, IsDistinct-from_sorted}, Made.{length-from_same_keys}}}}, specs.{List.{AllByRecursion, sum_by}, Ordering.{eq_by_cmp}}}
 use Rattle.amt_values.{specs.{declared.address.Ip.{Ip}, Order.{ip_order}, Ascending.{IsAscending, has}, Conditions.{first_holding}}, proofs.{Orders.{ip_order-exact, ip_order-total}, AscendingLaws.{IsAscending-ascending, IsAscending-filter, has-filter}}}
 use Rattle.source_filter.specs.Filter.{FilterValue}
 use Rattle.group_records.specs.{Written.{is_of_family}, declared.family.Family.{Family}}
@@ -18,21 +18,13 @@ filter_made : (test : Ip × Option ℕ → Bool) (left : Ip → Option ℕ) (gro
 filter_made test left [] = refl
 filter_made test left (group ∷ more) = made_first (test (group, left group)) left group (filter (λ one. test (one, left one)) more) (filter test (map (λ one. (one, left one)) more)) (filter_made test left more)
 
-or_false : (test : Bool) → (test || false) ≡ test
-or_false true = refl
-or_false false = refl
-
-and_false : (test : Bool) → (test && false) ≡ false
-and_false true = refl
-and_false false = refl
-
 few_by : (some apart of : Bool) (left : Option ℕ) (later : ℕ) (due : Bool) → (may_be_due later left ≡ true → due ≡ true)
     → ((some || is_some left) && (apart && (of && (not (is_some left) || (may_be_due later left || some))))) ≡ true → (of && (some || due)) ≡ true
 few_by true true true left later due is listed = refl
 few_by true true false left later due is listed = listed
 few_by true false of left later due is listed = absurd cc
 few_by false apart of None later due is listed = absurd cc
-few_by false true true (Some moment) later due is listed = is (sym (or_false (may_be_due later (Some moment))) ∙ listed)
+few_by false true true (Some moment) later due is listed = is (sym (or-false (may_be_due later (Some moment))) ∙ listed)
 few_by false true false (Some moment) later due is listed = listed
 few_by false false of (Some moment) later due is listed = absurd cc
 
@@ -42,7 +34,7 @@ plain_by true true None later = refl
 plain_by true true (Some moment) later = or-true (may_be_due later (Some moment))
 plain_by true false left later = refl
 plain_by false true None later = refl
-plain_by false true (Some moment) later = or_false (may_be_due later (Some moment))
+plain_by false true (Some moment) later = or-false (may_be_due later (Some moment))
 plain_by false false None later = refl
 plain_by false false (Some moment) later = refl
 
@@ -107,7 +99,7 @@ module _ (history : List AcceptedCall) (slots : List (Ip × Option ℕ)) (is : I
       has-others group
       ∙ ap (λ (same : Bool). (has_socket group sockets || is_some (left group)) && (not same && (is_of_family family group && (not (is_some (left group)) || (may_be_due later (left group) || has_socket group sockets)))))
       (same_group-itself group)
-      ∙ and_false (has_socket group sockets || is_some (left group))
+      ∙ and-false (has_socket group sockets || is_some (left group))
 
 -- a call that sets a filter of one group
 module _ (newest : AcceptedCall) (history : List AcceptedCall) (slots : List (Ip × Option ℕ)) (is : IsKeptBy history slots) (onward : latest history ≤ newest.moment) (group : Ip)

@@ -1,5 +1,5 @@
 -- The slots of sockets and farewells, and what calls make of them.
-use Rattle.std.{proofs.{Common.{◌≡◌, ℕ, Bool, true, false, not, ◌||◌, cond, is_some, List, [], ◌∷◌, ◌++◌, map, Option, Some, None, refl, sym, ap, subst, ◌∙◌}, lemmas.{Cmp.{eq_by_cmp_equiv}, Map.{lookup-none, Entries.{lookup_head, lookup_tail, none_past_head}, Keys.{IsDistinct-from_sorted, IsDistinct-tail}, Made.{is_some-lookup}}, List.Elements.{All-cons, All-nil}}}, specs.{BTreeMap.{BTreeMap, IsOrdered, get, get_by, is_at}, List.{All, IsDistinct, cons_option, find, list_any}, Map.{keys_of, values_of, Calls.{RetainsPairs}}, Option.{option_map, unwrap_or}, Ordering.{eq_by_cmp}, declared.cmp.Ordering.{Ordering}}}
+use Rattle.std.{proofs.{Common.{◌≡◌, ℕ, Bool, true, false, not, ◌||◌, cond, is_some, List, [], ◌∷◌, ◌++◌, map, Option, Some, None, refl, sym, ap, subst, ◌∙◌}, lemmas.{Cmp.{eq_by_cmp_equiv}, Map.{lookup-none, Entries.{lookup_head, lookup_tail, none_past_head}, Keys.{IsDistinct-from_sorted, IsDistinct-tail}, Made.{is_some-lookup}}, List.Elements.{All-cons, All-nil}}}, specs.{BTreeMap.{BTreeMap, IsOrdered, get, get_by, is_at}, List.{All, IsDistinct, cons_option, find}, Map.{keys_of, Calls.{RetainsPairs}}, Option.{option_map, unwrap_or}, Ordering.{eq_by_cmp}, declared.cmp.Ordering.{Ordering}}}
 use Rattle.amt_values.{specs.{declared.address.Ip.{Ip}, Order.{ip_order}, Ascending.{IsAscending, ascending, has}}, proofs.{Orders.{ip_order-exact, ip_order-total}, AscendingLaws.{IsAscending-ascending, has-append, has-ascending, same_ascending}}}
 use Rattle.source_filter.specs.Filter.{wants_any}
 use Rattle.socket_merge.specs.{FullReport.{is_empty}, History.{Socket}, Interface.{on_group, same_group}, Kept.{AreMade, HasSlot, farewells_in, has_socket, kept_at, left_after, left_fresh, made, slot_at, slot_fresh, slot_left, slot_of, slots_of, some_wants}, Refusal.{may_be_due}, Sockets.{Farewell, left_in}}
@@ -149,10 +149,6 @@ same_slot : (test : Bool) (group other : Ip) (some : Ip → Bool) (before : Bool
 same_slot true group other some before left old same kept = ap (λ (at : Ip). slot_of (some at) left) (same refl)
 same_slot false group other some before left old same kept = ap (λ (has : Bool). slot_of has old) (sym (kept refl))
 
--- the list has a socket
-abbrev some_in : List Socket → Bool
-some_in sockets = not (is_empty sockets)
-
 -- a call that changes the sockets of one group
 pub AreSlots-one : (sockets after : List Socket) (slots new : List (Ip × Option ℕ)) (left : Ip → Option ℕ) (group : Ip) (now : Option ℕ) → AreSlots sockets slots left → IsAscending ip_order (keys_of new)
     → HasSlot group (slot_of (has_socket group after) now) slots new → ((other : Ip) → same_group other group ≡ false → on_group other after ≡ on_group other sockets)
@@ -161,7 +157,7 @@ AreSlots-one sockets after slots new left group now are ordered is others = reco
   ordered = ordered;
   each = λ other. is other ∙ ap (λ (slot : Option (Option ℕ)). cond (same_group group other) (slot_of (has_socket group after) now) slot) (are.each other)
       ∙ same_slot (same_group group other) group other (λ at. has_socket at after) (has_socket other sockets) now (left other) (same_group-exact group other)
-      (λ apart. ap (λ on. some_in on) (others other (same_group-turned other group ∙ apart)));
+      (λ apart. ap (λ (on : List Socket). not (is_empty on)) (others other (same_group-turned other group ∙ apart)));
 }
 
 left_by : (some wanted : Bool) (moment : ℕ) (left : Option ℕ) → (wanted ≡ true → some ≡ true)

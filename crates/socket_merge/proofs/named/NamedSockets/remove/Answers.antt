@@ -1,5 +1,5 @@
-use Rattle.std.proofs.{Common.{rules, List, ap, ◌∙◌}, lemmas.Fn.{filter_same}}
-use Rattle.socket_merge.specs.History.{Close, Socket, sockets_after}
+use Rattle.std.proofs.{Common.{rules, ap, ◌∙◌}, lemmas.Fn.{filter_same}}
+use Rattle.socket_merge.specs.History.{Close, sockets_after}
 use Rattle.socket_merge.proofs.named.NamedSockets.remove.Goals as goal
 
 pub returns : goal.returns
