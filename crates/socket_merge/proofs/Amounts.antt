@@ -1,9 +1,9 @@
 -- Sums over sockets, and the socket of a name among the others.
-use Rattle.std.{proofs.{Common.{◌≡◌, ℕ, ◌+◌, ◌≤◌, Bool, true, false, not, cond, List, [], ◌∷◌, ◌++◌, length, map, filter, Option, Some, None, refl, sym, ap, ◌∙◌, arith}, lemmas.{List.{Elements.{All-cons, All-head, All-tail, filter-append}, Filters.{sum_by-filter_both}, Sums.{sum_by-append, sum_by-cons, sum_by_push}}, Slice.Eq.{bytes_eq-Decides}}}, specs.List.{All, count_by, find, sum_by}}
+use Rattle.std.{proofs.{Common.{◌≡◌, ℕ, ◌+◌, ◌≤◌, ◌<◌, zero, suc, get_or, set, Bool, true, false, not, cond, List, [], ◌∷◌, ◌++◌, length, filter, Option, Some, None, refl, sym, ap, ◌∙◌, arith}, lemmas.{List.{Elements.{All-head, All-tail, filter-append}, Filters.{sum_by-filter_both}, Sums.{get_or-le-sum_by, sum_by-append, sum_by-cons, sum_by_push}}, Slice.Eq.{bytes_eq-Decides}}}, specs.List.{All, count_by, find, sum_by}}
 use Rattle.amt_values.specs.declared.address.Ip.{Ip}
 use Rattle.source_filter.specs.Filter.{FilterValue}
 use Rattle.socket_merge.proofs.Wanted.{same_group-itself}
-use Rattle.socket_merge.specs.{History.{Change, Close, Socket, refiltered, same_name, socket_named, sockets_after}, Interface.{on_group, same_group}}
+use Rattle.socket_merge.specs.{History.{Change, Close, Socket, same_name, socket_named, sockets_after}, Interface.{on_group, same_group}}
 
 sum_by-cond : {X : Type 0} (f : X → ℕ) (test : Bool) (x : X) (xs : List X) → sum_by f (cond test (x ∷ xs) xs) ≡ cond test (f x) 0 + sum_by f xs
 sum_by-cond f true x xs = sum_by-cons f x xs
@@ -130,7 +130,38 @@ HasName-of name socket (first ∷ more) few is =
     among_by (has_name name first) first socket (socket_named name more) more (sockets_after (Close name) more) (λ filter. sockets_after (Change name filter) more) (count_by (has_name name) more) (unnamed name more)
     (HasName-of name socket more) (omega (arith, few, sum_by-cons (λ one. cond (has_name name one) 1 0) first more)) is
 
-module _ (socket : Socket) (sockets closed : List Socket) (changed : FilterValue → List Socket) (is : IsAmong socket sockets closed changed) where
+pub none_named : (name : List ℕ) (sockets : List Socket) → All (λ one. has_name name one ≡ false) sockets → count_by (has_name name) sockets ≡ 0
+none_named name [] all = refl
+none_named name (first ∷ more) all =
+    let off = ap {B = ℕ} (λ (test : Bool). cond test 1 0) (All-head (λ one. has_name name one ≡ false) first more all) in
+    omega (arith, off, sum_by-cons (λ one. cond (has_name name one) 1 0) first more, none_named name more (All-tail (λ one. has_name name one ≡ false) first more all))
+
+off_by : (test : Bool) (number : ℕ) → 1 ≤ number → cond test 1 0 + number ≤ 1 → test ≡ false
+off_by true number some few = absurd (omega arith)
+off_by false number some few = refl
+
+-- another filter of the socket at a place, where it is the only one of its name
+pub refiltered-at : (name : List ℕ) (filter : FilterValue) (sockets : List Socket) (place : ℕ) (d : Socket) → place < length sockets → has_name name (get_or sockets place d) ≡ true
+    → count_by (has_name name) sockets ≤ 1 → set sockets place (with_filter filter (get_or sockets place d)) ≡ sockets_after (Change name filter) sockets
+refiltered-at name filter [] place d within is few = absurd (omega arith)
+refiltered-at name filter (first ∷ more) zero d within is few =
+    let one = ap {B = ℕ} (λ (test : Bool). cond test 1 0) is in
+    let rest = (unnamed name more (omega (arith, few, one, sum_by-cons (λ each. cond (has_name name each) 1 0) first more))).again filter in
+    rw is (ap (λ sockets. with_filter filter first ∷ sockets) (sym rest))
+refiltered-at name filter (first ∷ more) (suc place) d within is few =
+    let one = ap {B = ℕ} (λ (test : Bool). cond test 1 0) is in
+    let later = get_or-le-sum_by (λ each. cond (has_name name each) 1 0) more place d (omega arith) in
+    let count = sum_by-cons (λ each. cond (has_name name each) 1 0) first more in
+    let off = off_by (has_name name first) (count_by (has_name name) more) (omega arith) (omega arith) in
+    rw off (ap (λ sockets. first ∷ sockets) (refiltered-at name filter more place d (omega arith) is (omega arith)))
+
+module _ (name : List ℕ) (socket : Socket) (sockets : List Socket) (is : HasName name socket sockets) where
+  abbrev closed : List Socket
+  closed = sockets_after (Close name) sockets
+
+  abbrev changed : FilterValue → List Socket
+  changed filter = sockets_after (Change name filter) sockets
+
   with-sum : (measure : Socket → ℕ) (all : List Socket) (one : Socket) → all ≡ is.before ++ one ∷ is.after → sum_by measure all ≡ sum_by measure closed + measure one
   with-sum measure all one whole =
       let split = ap (sum_by measure) whole in
@@ -145,7 +176,7 @@ module _ (socket : Socket) (sockets closed : List Socket) (changed : FilterValue
   sum-changed measure filter = with-sum measure (changed filter) (with_filter filter socket) (is.again filter)
 
   pub AreApart-changed : (filter : FilterValue) → AreApart sockets → AreApart (changed filter)
-  AreApart-changed filter apart name = omega (arith, apart name, sum-closed (λ one. cond (has_name name one) 1 0), sum-changed (λ one. cond (has_name name one) 1 0) filter)
+  AreApart-changed filter apart other = omega (arith, apart other, sum-closed (λ one. cond (has_name other one) 1 0), sum-changed (λ one. cond (has_name other one) 1 0) filter)
 
   without : (other : Ip) (one : Socket) → same_group other one.group ≡ false → on_group other (is.before ++ one ∷ is.after) ≡ on_group other closed
   without other one apart =
@@ -161,16 +192,3 @@ module _ (socket : Socket) (sockets closed : List Socket) (changed : FilterValue
   pub kept-changed : (filter : FilterValue) (other : Ip) → same_group other socket.group ≡ false → on_group other (changed filter) ≡ on_group other sockets
   kept-changed filter other apart =
       ap (on_group other) (is.again filter) ∙ without other (with_filter filter socket) apart ∙ kept-closed other apart
-
-all_by : (P : Socket → Type 0) (test : Bool) (filter : FilterValue) (socket : Socket) → (test ≡ true → P (with_filter filter socket)) → P socket → P (cond test (with_filter filter socket) socket)
-all_by P true filter socket changed here = changed refl
-all_by P false filter socket changed here = here
-
--- what holds of each socket, and with the filter of each that has the name, holds of each after the change
-pub All-refiltered : (P : Socket → Type 0) (name : List ℕ) (filter : FilterValue) (sockets : List Socket) → All (λ one. has_name name one ≡ true → P (with_filter filter one)) sockets → All P sockets
-    → All P (map (refiltered name filter) sockets)
-All-refiltered P name filter [] changed all = all
-All-refiltered P name filter (first ∷ more) changed all =
-    All-cons P (refiltered name filter first) (map (refiltered name filter) more)
-    (all_by P (has_name name first) filter first (All-head (λ one. has_name name one ≡ true → P (with_filter filter one)) first more changed) (All-head P first more all))
-    (All-refiltered P name filter more (All-tail (λ one. has_name name one ≡ true → P (with_filter filter one)) first more changed) (All-tail P first more all))

@@ -1,11 +1,11 @@
 -- Which groups have sockets, and were opened; sums and texts by group.
-use Rattle.std.proofs.Common.{◌≡◌, ℕ, ◌+◌, Bool, true, false, not, ◌&&◌, ◌||◌, cond, List, [], ◌∷◌, ◌++◌, filter, length, map, Option, Some, None, if◌then◌else◌, refl, sym, ap, subst, ◌∙◌, arith}
-use Rattle.std.{proofs.lemmas.{Cmp.{eq_by_cmp_equiv}, List.{Elements.{All-filter, All-head, All-nil, All-push, All-tail, All-weaker}, Sums.{sum_by-cons}}, Map.Keys.{IsDistinct-head, IsDistinct-tail}}, specs.List.{All, AllByRecursion, IsDistinct, flat_map, list_any, sum_by}}
+use Rattle.std.proofs.Common.{◌≡◌, ℕ, ◌+◌, Bool, true, false, not, ◌&&◌, ◌||◌, cond, List, [], ◌∷◌, ◌++◌, filter, length, map, Option, Some, None, if◌then◌else◌, refl, sym, ap, ◌∙◌, arith}
+use Rattle.std.{proofs.lemmas.{Bool.{cond_both, false_from_ne_true, or_right}, Cmp.{eq_by_cmp_equiv}, List.{Folds.{list_any_none}, Elements.{All-from_recursion, All-filter, All-head, All-map, All-nil, All-push, All-tail, All-weaker}, Sums.{sum_by-cons}}, Map.Keys.{IsDistinct-head, IsDistinct-tail}}, specs.List.{All, IsDistinct, flat_map, list_any, sum_by}}
 use Rattle.std.specs.Ordering.{eq_by_cmp}
 use Rattle.amt_values.{specs.{declared.address.Ip.{Ip}, Order.{ip_order}, Ascending.{IsAscending, has}}, proofs.{Orders.{ip_order-exact, ip_order-total}, AscendingLaws.{IsAscending-filter, has-append, has-filter, same_ascending}}}
-use Rattle.socket_merge.specs.{FullReport.{is_empty}, History.{AcceptedCall, Change, Close, LeaveAll, Open, Socket, SocketCall, group_opened, groups_opened, open_sockets, sockets_after}, Interface.{is_wanted, left_at, on_group, same_group}, Kept.{has_socket, listed, listed_on}}
+use Rattle.socket_merge.specs.{FullReport.{is_empty}, History.{AcceptedCall, Change, Close, LeaveAll, Open, Socket, SocketCall, group_opened, groups_opened, open_sockets, refiltered, sockets_after}, Interface.{is_wanted, left_at, on_group, same_group}, Kept.{has_socket, listed, listed_on}}
 use Rattle.source_filter.specs.{Filter.{wants_any}, Merging.{merged}}
-use Rattle.socket_merge.{specs.Interface.{filters_on}, proofs.{Amounts.{All-refiltered, has_name, listing}, Wanted.{same_group-exact, same_group-itself, some_item, wants_any-merged}}}
+use Rattle.socket_merge.{specs.Interface.{filters_on}, proofs.{Amounts.{has_name, listing, with_filter}, Wanted.{All-has, same_group-exact, same_group-itself, some_item, wants_any-merged}}}
 
 -- the group of a socket
 abbrev pub group_of : Socket → Ip
@@ -21,26 +21,9 @@ has_socket-listed group [] = refl
 has_socket-listed group (socket ∷ more) =
     some_by (same_group group socket.group) (has ip_order (map group_of more) group) socket (on_group group more) (has_socket-listed group more)
 
-all_by : (P : Ip → Type 0) (test : Bool) (group : Ip) (socket : Socket) (on : List Socket) → (test ≡ true → P group) → (not (is_empty on) ≡ true → P group)
-    → not (is_empty (cond test (socket ∷ on) on)) ≡ true → P group
-all_by P true group socket on here later some = here refl
-all_by P false group socket on here later some = later some
-
 -- what holds of the group of each socket holds of each group with a socket
 pub All-group : (P : Ip → Type 0) (group : Ip) (sockets : List Socket) → All (λ socket. P socket.group) sockets → has_socket group sockets ≡ true → P group
-All-group P group [] all some = absurd cc
-All-group P group (socket ∷ more) all some =
-    all_by P (same_group group socket.group) group socket (on_group group more)
-    (λ same. subst P (sym (same_group-exact group socket.group same)) (All-head (λ one. P one.group) socket more all))
-    (All-group P group more (All-tail (λ one. P one.group) socket more all)) some
-
-pub either_none : (first second : Bool) → (first || second) ≡ false → (first ≡ false) × (second ≡ false)
-either_none true second is = absurd cc
-either_none false second is = (refl, is)
-
-pub or_there : (first second : Bool) → second ≡ true → (first || second) ≡ true
-or_there true second some = refl
-or_there false second some = some
+All-group P group sockets all some = All-has P (map group_of sockets) group (All-map P group_of sockets all) (sym (has_socket-listed group sockets) ∙ some)
 
 -- ---- the groups that sockets were opened of
 
@@ -49,17 +32,18 @@ abbrev pub IsOpened : List AcceptedCall → Ip → Type 0
 IsOpened history group = has ip_order (groups_opened history) group ≡ true
 
 opened_later : (call : SocketCall) (history : List AcceptedCall) (group : Ip) → IsOpened history group → has ip_order (group_opened call ++ groups_opened history) group ≡ true
-opened_later call history group is = has-append ip_order (group_opened call) (groups_opened history) group ∙ or_there (has ip_order (group_opened call) group) _ is
+opened_later call history group is = has-append ip_order (group_opened call) (groups_opened history) group ∙ or_right (has ip_order (group_opened call) group) _ is
 
 opened_by : (call : SocketCall) (history : List AcceptedCall) (sockets : List Socket) → All (λ socket. IsOpened history socket.group) sockets
     → All (λ socket. has ip_order (group_opened call ++ groups_opened history) socket.group ≡ true) (sockets_after call sockets)
 opened_by (Open name group filter) history sockets all =
     All-push (λ socket. has ip_order (group ∷ groups_opened history) socket.group ≡ true) sockets (record { name = name; group = group; filter = filter })
-    (All-weaker (λ socket. IsOpened history socket.group) (λ socket. has ip_order (group ∷ groups_opened history) socket.group ≡ true) (λ socket is. or_there (same_group socket.group group) _ is) sockets all)
+    (All-weaker (λ socket. IsOpened history socket.group) (λ socket. has ip_order (group ∷ groups_opened history) socket.group ≡ true) (λ socket is. or_right (same_group socket.group group) _ is) sockets all)
     (ap (λ (test : Bool). test || has ip_order (groups_opened history) group) (same_group-itself group))
 opened_by (Change name filter) history sockets all =
-    All-refiltered (λ socket. IsOpened history socket.group) name filter sockets
-    (All-weaker (λ socket. IsOpened history socket.group) (λ socket. has_name name socket ≡ true → IsOpened history socket.group) (λ socket is named. is) sockets all) all
+    All-map (λ socket. IsOpened history socket.group) (refiltered name filter) sockets
+    (All-weaker (λ socket. IsOpened history socket.group) (λ socket. IsOpened history (refiltered name filter socket).group)
+    (λ socket is. cond_both (has_name name socket) (with_filter filter socket) socket (λ one. IsOpened history one.group) (λ named. is) (λ other. is)) sockets all)
 opened_by (Close name) history sockets all = All-filter (λ socket. not (has_name name socket)) (λ socket. IsOpened history socket.group) sockets all
 opened_by LeaveAll history sockets all = All-nil (λ socket. IsOpened history socket.group)
 
@@ -96,64 +80,22 @@ opened-left (newest ∷ older) group left is =
     left_by (is_wanted (newest ∷ older) group) (is_wanted older group) newest.moment left (left_at older group) (IsOpened (newest ∷ older) group)
     (λ wanted. opened_later newest.call older group (opened-wanted older group wanted)) (λ earlier. opened_later newest.call older group (opened-left older group left earlier)) is
 
-not_by : (test opened : Bool) → (test ≡ true → opened ≡ true) → opened ≡ false → test ≡ false
-not_by true opened is none = let yes = is refl in absurd cc
-not_by false opened is none = refl
-
 none_by : (left : Option ℕ) (opened : Bool) → ((moment : ℕ) → left ≡ Some moment → opened ≡ true) → opened ≡ false → left ≡ None
 none_by None opened is none = refl
 none_by (Some moment) opened is none = let yes = is moment refl in absurd cc
 
 -- a group of which no socket was opened has none
 pub unopened : (history : List AcceptedCall) (group : Ip) → has ip_order (groups_opened history) group ≡ false → has_socket group (open_sockets history) ≡ false
-unopened history group none = not_by (has_socket group (open_sockets history)) _ (opened-some history group) none
+unopened history group none = false_from_ne_true _ (λ some. let opened = opened-some history group some in cc)
 
 -- it isn't wanted, and was never left
 pub unwanted : (history : List AcceptedCall) (group : Ip) → has ip_order (groups_opened history) group ≡ false → is_wanted history group ≡ false
-unwanted history group none = not_by (is_wanted history group) _ (opened-wanted history group) none
+unwanted history group none = false_from_ne_true _ (λ wanted. let opened = opened-wanted history group wanted in cc)
 
 pub never_left : (history : List AcceptedCall) (group : Ip) → has ip_order (groups_opened history) group ≡ false → left_at history group ≡ None
 never_left history group none = none_by (left_at history group) _ (opened-left history group) none
 
 -- ---- texts of groups
-
-both_have : (first second passes : Bool) → (passes ≡ true → first ≡ true) → (passes ≡ true → second ≡ true) → (first && passes) ≡ (second && passes)
-both_have true true passes first second = refl
-both_have false false passes first second = refl
-both_have true false true first second = let no = second refl in absurd cc
-both_have true false false first second = refl
-both_have false true true first second = let no = first refl in absurd cc
-both_have false true false first second = refl
-
--- the groups that pass are the same ones
-pub same_passing : (test : Ip → Bool) (xs ys : List Ip) → IsAscending ip_order xs → IsAscending ip_order ys → ((group : Ip) → test group ≡ true → has ip_order xs group ≡ true)
-    → ((group : Ip) → test group ≡ true → has ip_order ys group ≡ true) → filter test xs ≡ filter test ys
-same_passing test xs ys first second in_first in_second =
-    same_ascending ip_order-total ip_order-exact (filter test xs) (filter test ys) (IsAscending-filter ip_order test xs first) (IsAscending-filter ip_order test ys second)
-    (λ group. has-filter ip_order-exact test xs group ∙ both_have (has ip_order xs group) (has ip_order ys group) (test group) (in_first group) (in_second group)
-    ∙ sym (has-filter ip_order-exact test ys group))
-
-flat_first : {X : Type 0} (f : Ip → List X) (here : List X) (group : Ip) (passing : List Ip) → f group ≡ here → flat_map f (cond (some_item here) (group ∷ passing) passing) ≡ here ++ flat_map f passing
-flat_first f [] group passing is = refl
-flat_first f (x ∷ xs) group passing is = ap (λ first. first ++ flat_map f passing) is
-
-flat_map-passing : {X : Type 0} (f : Ip → List X) (groups : List Ip) → flat_map f (filter (λ group. some_item (f group)) groups) ≡ flat_map f groups
-flat_map-passing f [] = refl
-flat_map-passing f (group ∷ more) =
-    flat_first f (f group) group (filter (λ one. some_item (f one)) more) refl ∙ ap (λ rest. f group ++ rest) (flat_map-passing f more)
-
-listed_by : {X : Type 0} (listed : Bool) (here : List X) → (listed ≡ false → here ≡ []) → some_item here ≡ true → listed ≡ true
-listed_by true here none some = refl
-listed_by false here none some = let nothing = ap some_item (none refl) in absurd cc
-
--- what is said of the groups of two lists is the same, where nothing is said of others
-pub flat_map-same : {X : Type 0} (f : Ip → List X) (xs ys : List Ip) → IsAscending ip_order xs → IsAscending ip_order ys → ((group : Ip) → has ip_order xs group ≡ false → f group ≡ [])
-    → ((group : Ip) → has ip_order ys group ≡ false → f group ≡ []) → flat_map f xs ≡ flat_map f ys
-flat_map-same f xs ys first second in_first in_second =
-    sym (flat_map-passing f xs)
-    ∙ ap (flat_map f) (same_passing (λ group. some_item (f group)) xs ys first second (λ group some. listed_by (has ip_order xs group) (f group) (in_first group) some)
-    (λ group some. listed_by (has ip_order ys group) (f group) (in_second group) some))
-    ∙ flat_map-passing f ys
 
 first_of : {X : Type 0} (test : Bool) (f : Ip → List X) (group : Ip) (passing : List Ip) → flat_map f (cond test (group ∷ passing) passing) ≡ cond test (f group) [] ++ flat_map f passing
 first_of true f group passing = refl
@@ -165,14 +107,30 @@ flat_map-filter f test [] = refl
 flat_map-filter f test (group ∷ more) =
     first_of (test group) f group (filter test more) ∙ ap (λ later. cond (test group) (f group) [] ++ later) (flat_map-filter f test more)
 
+items_or : {X : Type 0} (here : List X) → cond (some_item here) here [] ≡ here
+items_or [] = refl
+items_or (x ∷ xs) = refl
+
+passing : {X : Type 0} (listed : Bool) (here : List X) → (listed ≡ false → here ≡ []) → (listed && some_item here) ≡ some_item here
+passing true here none = refl
+passing false here none = sym (ap some_item (none refl))
+
+-- what is said of the groups of two lists is the same, where nothing is said of others
+pub flat_map-same : {X : Type 0} (f : Ip → List X) (xs ys : List Ip) → IsAscending ip_order xs → IsAscending ip_order ys → ((group : Ip) → has ip_order xs group ≡ false → f group ≡ [])
+    → ((group : Ip) → has ip_order ys group ≡ false → f group ≡ []) → flat_map f xs ≡ flat_map f ys
+flat_map-same f xs ys first second in_first in_second =
+    let some : Ip → Bool = λ group. some_item (f group) in
+    let all : (groups : List Ip) → flat_map f (filter some groups) ≡ flat_map f groups = λ groups. flat_map-filter f some groups ∙ (λ i. flat_map (λ group. items_or (f group) i) groups) in
+    sym (all xs)
+    ∙ ap (flat_map f) (same_ascending ip_order-total ip_order-exact (filter some xs) (filter some ys) (IsAscending-filter ip_order some xs first) (IsAscending-filter ip_order some ys second)
+    (λ group. has-filter ip_order-exact some xs group ∙ passing (has ip_order xs group) (f group) (in_first group)
+    ∙ sym (has-filter ip_order-exact some ys group ∙ passing (has ip_order ys group) (f group) (in_second group))))
+    ∙ all ys
+
 -- ---- sums over groups
 
 abbrev DistinctGroups : List Ip → Type 0
 DistinctGroups groups = IsDistinct (eq_by_cmp ip_order) groups
-
-none_has : (group : Ip) (groups : List Ip) → AllByRecursion (λ other. same_group group other ≡ false) groups → has ip_order groups group ≡ false
-none_has group [] apart = refl
-none_has group (next ∷ more) apart = ap (λ (test : Bool). test || has ip_order more group) apart.0 ∙ none_has group more apart.1
 
 one_by : (test rest : Bool) (f : Ip → ℕ) (group next : Ip) (sum : ℕ) → (test ≡ true → group ≡ next) → (test ≡ true → rest ≡ false) → sum ≡ cond rest (f group) 0
     → cond test (f next) 0 + sum ≡ cond (test || rest) (f group) 0
@@ -188,7 +146,7 @@ sum-one f group [] distinct = refl
 sum-one f group (next ∷ more) distinct =
     sum_by-cons (λ other. cond (same_group group other) (f other) 0) next more
     ∙ one_by (same_group group next) (has ip_order more group) f group next (sum_by (λ other. cond (same_group group other) (f other) 0) more) (same_group-exact group next)
-    (λ same. ap (has ip_order more) (same_group-exact group next same) ∙ none_has next more (IsDistinct-head (eq_by_cmp ip_order) next more distinct))
+    (λ same. ap (has ip_order more) (same_group-exact group next same) ∙ list_any_none (same_group next) more (All-from_recursion (λ other. same_group next other ≡ false) more (IsDistinct-head (eq_by_cmp ip_order) next more distinct)))
     (sum-one f group more (IsDistinct-tail (eq_by_cmp ip_order) next more distinct))
 
 pub sum-both : (f g h : Ip → ℕ) (groups : List Ip) → ((group : Ip) → h group ≡ f group + g group) → sum_by h groups ≡ sum_by f groups + sum_by g groups

@@ -1,9 +1,9 @@
 -- What each call of the sockets leaves, by what its private calls answer.
-use Rattle.std.{proofs.{Common.{◌≡◌, ℕ, ◌+◌, ◌≤◌, max, Bool, true, false, ◌||◌, cond, is_some, List, [], ◌∷◌, length, Option, Some, None, IsSome, refl, sym, ap, subst, ◌∙◌, arith}, lemmas.{Bool.{leb-true}, List.Elements.{All-nil}}}, specs.{List.{All, count_by}, Map.{keys_of}, Option.{option_map}}}
+use Rattle.std.{proofs.{Common.{◌≡◌, ℕ, ◌+◌, ◌≤◌, max, Bool, true, false, ◌||◌, cond, is_some, List, [], ◌∷◌, length, Option, Some, None, IsSome, refl, sym, ap, subst, ◌∙◌, arith}, lemmas.{Bool.{leb-true}, List.Elements.{All-nil}}}, specs.{List.{All}, Map.{keys_of}}}
 use Rattle.amt_values.specs.{declared.address.Ip.{Ip}, Order.{ip_order}, Ascending.{IsAscending}}
 use Rattle.source_filter.specs.Filter.{FilterValue}
 use Rattle.socket_merge.specs.{FullReport.{longest_farewell}, History.{AcceptedCall, Change, Close, LeaveAll, Open, Socket, SocketCall, latest, open_sockets, socket_named, sockets_after, with_call}, Interface.{filters_on, is_wanted, left_at, on_group, same_group}, Kept.{AreMade, HasSlot, IsSound, farewells_in, has_socket, kept_at, left_after, left_fresh, listed_in, listed_on, places_besides, raw_octets, slot_at, slot_fresh, slot_left, slot_of, slots_of, some_wants}, Refusal.{IsWithinLimits, family_of, has_place, may_be_due, raw_sources, refusal_of}, Sockets.{Farewell, HasNoOldFarewell, IsKept, KeepsFarewells, SocketsHold, SocketsValue, left_in}, declared.fault.SocketFault.{SocketFault}}
-use Rattle.socket_merge.proofs.{Amounts.{HasName, HasName-of, has_name, kept-changed, kept-closed, some_is}, HoldsAfter.{AreFollowed, AreFollowed-one, Stands, Stands-fresh, Stands-next, farewell_stays, may_be_due-kept, read_at}, Lawful.{AreOthersKept, IsLawful-next, IsLawful-none, MayCall, kept-opened}, RawOctets.{IsFew-of, raw-is, raw_groups, raw_sources-listed, same-raw}, Refused.{IsCounted-of, IsKeptBy, limit_by, places-few, refusal-all, refusal-changed, refusal-closed, refusal-opened, some_on}, Slots.{AreSlots, AreSlots-back, AreSlots-fresh, AreSlots-left, AreSlots-one, back-of, each_farewell, kept-is, left_in-is}, Wanted.{wants_any-merged}}
+use Rattle.socket_merge.proofs.{Amounts.{AreApart, HasName, HasName-of, kept-changed, kept-closed}, HoldsAfter.{AreFollowed, AreFollowed-one, Stands, Stands-fresh, Stands-next, farewell_stays, may_be_due-kept, read_at}, Lawful.{AreOthersKept, IsLawful-next, IsLawful-none, MayCall, kept-opened}, RawOctets.{IsFew-of, raw-is, raw_groups, raw_sources-listed, same-raw}, Refused.{IsCounted, IsCounted-of, IsKeptBy, limit_by, places-few, refusal-changed, refusal-opened, some_on}, Slots.{AreSlots, AreSlots-back, AreSlots-fresh, AreSlots-left, AreSlots-one, back-of, each_farewell, kept-is, left_in-is}, Wanted.{wants_any-merged}}
 
 -- what contracts see of sockets that are kept so
 abbrev pub value_of : ℕ → List Socket → List (Ip × Option ℕ) → SocketsValue
@@ -14,8 +14,7 @@ pub record KeptFor (moment : ℕ) (sockets : List Socket) (slots : List (Ip × O
   pub now : moment ≡ latest history
   pub same : sockets ≡ open_sockets history
   pub are : AreSlots sockets slots (left_in (farewells_in slots))
-  pub stands : Stands history (left_in (farewells_in slots))
-  pub apart : (name : List ℕ) (socket : Socket) → socket_named name sockets ≡ Some socket → HasName name socket sockets
+  pub apart : AreApart sockets
   pub limits : IsWithinLimits history
   pub kept : IsKeptBy history slots
 
@@ -23,7 +22,7 @@ has_place-by : (moment : ℕ) (sockets : List Socket) (slots : List (Ip × Optio
     → has_place history group ≡ (has_socket group sockets || may_be_due moment (left_in (farewells_in slots) group))
 has_place-by moment sockets slots history holds group =
     ap (λ (all : List Socket). has_socket group all || may_be_due (latest history) (left_at history group)) (sym holds.sockets)
-    ∙ ap (λ (due : Bool). has_socket group sockets || due) (sym (may_be_due-kept history group (left_in (farewells_in slots) group) (latest history) (holds.farewells group) (omega arith)))
+    ∙ ap (λ (due : Bool). has_socket group sockets || due) (sym (may_be_due-kept (left_at history group) (left_in (farewells_in slots) group) (latest history) (latest history) (holds.farewells group) (omega arith)))
     ∙ ap (λ (at : ℕ). has_socket group sockets || may_be_due at (left_in (farewells_in slots) group)) (sym holds.moment)
 
 -- the limits are kept in each history that the sockets stand for, where they are in one
@@ -48,8 +47,7 @@ keeps moment sockets slots history sound holds = record {
   now = holds.moment;
   same = holds.sockets;
   are = AreSlots-back sockets slots sound.back;
-  stands = holds.farewells;
-  apart = λ name socket found. HasName-of name socket sockets (subst (λ (all : List Socket). count_by (has_name name) all ≤ 1) (sym sound.holds.sockets) (sound.lawful.apart name)) found;
+  apart = subst AreApart (sym sound.holds.sockets) sound.lawful.apart;
   limits = limits-same moment sockets slots sound.history history sound.holds holds sound.lawful.limits;
   kept = record { back = subst (λ (all : List Socket). slots_of all (farewells_in slots) ≡ slots) holds.sockets sound.back; stands = holds.farewells };
 }
@@ -66,60 +64,26 @@ pub SocketsHold-after : (newest : AcceptedCall) (history : List AcceptedCall) (m
 SocketsHold-after newest history moment sockets slots new left is = record {
   moment = is.now;
   sockets = is.same;
-  farewells = λ group. subst (IsKept (newest ∷ history) group) (sym (left_in-is sockets new left is.are group)) (is.stands group);
+  farewells = λ group. subst (IsKept (left_at (newest ∷ history) group) newest.moment) (sym (left_in-is sockets new left is.are group)) (is.stands group);
   each = each_farewell (λ one. left_at (newest ∷ history) one.group ≡ Some one.left) sockets new left is.are (λ group at same. (is.stands group).of_history at same);
 }
 
-pub IsSound-after : (at : ℕ) (call : SocketCall) (moment later : ℕ) (sockets after : List Socket) (slots new : List (Ip × Option ℕ)) → IsSound moment sockets slots
-    → ((history : List AcceptedCall) → SocketsHold (value_of moment sockets slots) history → SocketsHold (value_of later after new) (with_call at call history))
-    → slots_of after (farewells_in new) ≡ new → MayCall call sockets
-    → ((history : List AcceptedCall) → SocketsHold (value_of moment sockets slots) history → refusal_of at call history ≡ None) → IsSound later after new
-IsSound-after at call moment later sockets after slots new sound holds back may free = record {
-  history = with_call at call sound.history;
-  holds = holds sound.history sound.holds;
-  lawful = IsLawful-next at call sound.history sound.lawful (subst (MayCall call) sound.holds.sockets may) (free sound.history sound.holds);
-  back = back;
-}
+pub IsSound-after : (at : ℕ) (call : SocketCall) (moment later : ℕ) (sockets after : List Socket) (slots new : List (Ip × Option ℕ)) (old : SocketsValue) → value_of moment sockets slots ≡ old
+    → IsSound moment sockets slots → ((history : List AcceptedCall) → SocketsHold old history → SocketsHold (value_of later after new) (with_call at call history))
+    → slots_of after (farewells_in new) ≡ new → MayCall call sockets → ((history : List AcceptedCall) → SocketsHold old history → refusal_of at call history ≡ None) → IsSound later after new
+IsSound-after at call moment later sockets after slots new old view sound holds back may free =
+    let now = subst (λ (value : SocketsValue). SocketsHold value sound.history) view sound.holds in
+    record {
+      history = with_call at call sound.history;
+      holds = holds sound.history now;
+      lawful = IsLawful-next at call sound.history sound.lawful (subst (MayCall call) sound.holds.sockets may) (free sound.history now);
+      back = back;
+    }
 
 -- what is sound is within the limits
 pub within_limits : (moment : ℕ) (sockets : List Socket) (slots : List (Ip × Option ℕ)) → IsSound moment sockets slots → (history : List AcceptedCall) → SocketsHold (value_of moment sockets slots) history
     → IsWithinLimits history
 within_limits moment sockets slots sound history holds = (keeps moment sockets slots history sound holds).limits
-
--- ---- the socket of a name
-
--- what is told of a socket
-abbrev pub told_of : Socket → Ip × ℕ
-told_of socket = (socket.group, length socket.filter.sources)
-
--- the socket that was found, by what is told of it
-pub record IsFound (name : List ℕ) (sockets : List Socket) (told : Ip × ℕ) : Type 0 where
-  pub socket : Socket
-  pub found : socket_named name sockets ≡ Some socket
-  pub is : told ≡ told_of socket
-
-found_by : (name : List ℕ) (sockets : List Socket) (found : Option Socket) (told : Ip × ℕ) → socket_named name sockets ≡ found → Some told ≡ option_map told_of found → IsFound name sockets told
-found_by name sockets None told is same = absurd cc
-found_by name sockets (Some socket) told is same = record { socket = socket; found = is; is = some_is told (told_of socket) same }
-
-pub IsFound-of : (name : List ℕ) (sockets : List Socket) (told : Ip × ℕ) → Some told ≡ option_map told_of (socket_named name sockets) → IsFound name sockets told
-IsFound-of name sockets told same = found_by name sockets (socket_named name sockets) told refl same
-
-told_none : (found : Option Socket) → option_map told_of found ≡ None → found ≡ None
-told_none None none = refl
-told_none (Some socket) none = absurd cc
-
--- no socket has the name
-pub unknown : (name : List ℕ) (sockets : List Socket) → None ≡ option_map told_of (socket_named name sockets) → socket_named name sockets ≡ None
-unknown name sockets none = told_none (socket_named name sockets) (sym none)
-
-some_told : (found : Option Socket) (some : Bool) → is_some (option_map told_of found) ≡ some → is_some found ≡ some
-some_told None some is = is
-some_told (Some socket) some is = is
-
--- whether some socket has it
-pub taken : (name : List ℕ) (sockets : List Socket) (some : Bool) → is_some (option_map told_of (socket_named name sockets)) ≡ some → is_some (socket_named name sockets) ≡ some
-taken name sockets some is = some_told (socket_named name sockets) some is
 
 -- ---- the slots after calls
 
@@ -142,7 +106,7 @@ after_one at call history moment later sockets after slots new group keeps now r
     ∙ ap (λ (before : Bool). left_after (is_wanted (newest ∷ history) group) before later (kept_at slots group)) (wanted-is history sockets group keeps.same)
     ∙ ap (λ (one : ℕ). left_after (is_wanted (newest ∷ history) group) (is_wanted history group) one (kept_at slots group)) read
     ∙ ap (left_after (is_wanted (newest ∷ history) group) (is_wanted history group) newest.moment) (kept-is sockets slots left keeps.are group) in
-    let followed = AreFollowed-one newest history left group own keeps.stands
+    let followed = AreFollowed-one newest history left group own keeps.kept.stands
     (λ other apart. ap (on_group other) (sym same) ∙ others other apart ∙ ap (on_group other) keeps.same) follow in
     let lefts : Ip → Option ℕ = λ other. cond (same_group group other) own (left other) in (
       lefts,
@@ -151,7 +115,7 @@ after_one at call history moment later sockets after slots new group keeps now r
         now = read;
         same = same;
         are = AreSlots-one sockets after slots new left group own keeps.are ordered is others;
-        stands = Stands-next newest history left lefts (omega arith) keeps.stands followed;
+        stands = Stands-next newest history left lefts (omega arith) keeps.kept.stands followed;
       },
     )
 
@@ -173,7 +137,7 @@ after_all at history moment later sockets slots new keeps now ordered is =
         now = read;
         same = refl;
         are = AreSlots-left sockets slots new left later keeps.are ordered is;
-        stands = Stands-next newest history left lefts (omega arith) keeps.stands followed;
+        stands = Stands-next newest history left lefts (omega arith) keeps.kept.stands followed;
       },
     )
 
@@ -182,7 +146,7 @@ pub keeps_farewells : (at : ℕ) (call : SocketCall) (history : List AcceptedCal
     → KeptFor moment sockets slots history → AreFollowed (read_at at call history) history (left_in (farewells_in slots)) left → IsAfter (read_at at call history) history later after slots new left
     → KeepsFarewells (with_call at call history) (value_of moment sockets slots) (value_of later after new)
 keeps_farewells at call history moment later sockets after slots new left keeps follow is group one kept unwanted =
-    left_in-is after new left is.are group ∙ farewell_stays (read_at at call history) history (left_in (farewells_in slots)) left keeps.stands follow group one kept unwanted
+    left_in-is after new left is.are group ∙ farewell_stays (read_at at call history) history (left_in (farewells_in slots)) left keeps.kept.stands follow group one kept unwanted
 
 due_by : (test : Bool) (left : Option ℕ) (later moment : ℕ) → may_be_due later left ≡ test → cond test left None ≡ Some moment → later ≤ moment + longest_farewell
 due_by true None later moment due is = absurd cc
@@ -248,69 +212,61 @@ one_of later call group sockets after slots new before wanted rest slot ordered 
   ordered = ordered;
 }
 
--- what is promised of a call
-pub record Does (at : ℕ) (call : SocketCall) (moment later : ℕ) (sockets after : List Socket) (slots new : List (Ip × Option ℕ)) : Type 0 where
-  pub stands : (history : List AcceptedCall) → SocketsHold (value_of moment sockets slots) history → SocketsHold (value_of later after new) (with_call at call history)
-  pub keep : (history : List AcceptedCall) → SocketsHold (value_of moment sockets slots) history → KeepsFarewells (with_call at call history) (value_of moment sockets slots) (value_of later after new)
+-- what is promised of a call, where contracts see this of the sockets before
+pub record Does (at : ℕ) (call : SocketCall) (old : SocketsValue) (later : ℕ) (after : List Socket) (new : List (Ip × Option ℕ)) : Type 0 where
+  pub stands : (history : List AcceptedCall) → SocketsHold old history → SocketsHold (value_of later after new) (with_call at call history)
+  pub keep : (history : List AcceptedCall) → SocketsHold old history → KeepsFarewells (with_call at call history) old (value_of later after new)
   pub back : slots_of after (farewells_in new) ≡ new
 
-does_one : (at : ℕ) (call : SocketCall) (moment later : ℕ) (sockets after : List Socket) (slots new : List (Ip × Option ℕ)) (group : Ip) → IsSound moment sockets slots → later ≡ max moment at
-    → AreOthersKept group sockets after → IsOne later call group sockets after slots new → Does at call moment later sockets after slots new
-does_one at call moment later sockets after slots new group sound now others one =
-    let done = λ (history : List AcceptedCall) (holds : SocketsHold (value_of moment sockets slots) history).
-    after_one at call history moment later sockets after slots new group (keeps moment sockets slots history sound holds) now one.rest others one.ordered one.slot in
-    record {
-      stands = λ history holds. let is = done history holds in SocketsHold-after (read_at at call history) history later after slots new is.0 is.2;
-      keep = λ history holds. let is = done history holds in keeps_farewells at call history moment later sockets after slots new is.0 (keeps moment sockets slots history sound holds) is.1 is.2;
-      back = let is = done sound.history sound.holds in back-of after new is.0 is.2.are;
-    }
+does_by : (at : ℕ) (call : SocketCall) (moment later : ℕ) (sockets after : List Socket) (slots new : List (Ip × Option ℕ)) (old : SocketsValue) → value_of moment sockets slots ≡ old
+    → IsSound moment sockets slots
+    → ((history : List AcceptedCall) → KeptFor moment sockets slots history
+    → (left : Ip → Option ℕ) × AreFollowed (read_at at call history) history (left_in (farewells_in slots)) left × IsAfter (read_at at call history) history later after slots new left)
+    → Does at call old later after new
+does_by at call moment later sockets after slots new old view sound done =
+    let kept = λ (history : List AcceptedCall). keeps moment sockets slots history sound in
+    subst (λ (value : SocketsValue). Does at call value later after new) view
+    (record {
+      stands = λ history holds. let is = done history (kept history holds) in SocketsHold-after (read_at at call history) history later after slots new is.0 is.2;
+      keep = λ history holds. let is = done history (kept history holds) in keeps_farewells at call history moment later sockets after slots new is.0 (kept history holds) is.1 is.2;
+      back = let is = done sound.history (kept sound.history sound.holds) in back-of after new is.0 is.2.are;
+    })
 
-module _ (at moment later : ℕ) (name : List ℕ) (sockets after : List Socket) (slots new : List (Ip × Option ℕ)) (told : Ip × ℕ) (sound : IsSound moment sockets slots) (now : later ≡ max moment at)
-    (same : Some told ≡ option_map told_of (socket_named name sockets)) where
-  abbrev found : IsFound name sockets told
-  found = IsFound-of name sockets told same
+module _ (at moment later : ℕ) (name : List ℕ) (sockets after : List Socket) (slots new : List (Ip × Option ℕ)) (old : SocketsValue) (view : value_of moment sockets slots ≡ old) (socket : Socket)
+    (sound : IsSound moment sockets slots) (now : later ≡ max moment at) (found : socket_named name sockets ≡ Some socket) where
+  named : HasName name socket sockets
+  named = HasName-of name socket sockets ((keeps moment sockets slots sound.history sound sound.holds).apart name) found
 
-  pub has_name-of : HasName name found.socket sockets
-  has_name-of = (keeps moment sockets slots sound.history sound sound.holds).apart name found.socket found.found
-
-  others_of : (call : SocketCall) → AreOthersKept found.socket.group sockets (sockets_after call sockets) → after ≡ sockets_after call sockets → AreOthersKept told.0 sockets after
-  others_of call kept rest other apart = ap (on_group other) rest ∙ kept other (sym (ap (λ (one : Ip × ℕ). same_group other one.0) found.is) ∙ apart)
+  does_one : (call : SocketCall) → AreOthersKept socket.group sockets (sockets_after call sockets) → IsOne later call socket.group sockets after slots new → Does at call old later after new
+  does_one call others one =
+      does_by at call moment later sockets after slots new old view sound
+      (λ history keep. after_one at call history moment later sockets after slots new socket.group keep now one.rest (λ other apart. ap (on_group other) one.rest ∙ others other apart) one.ordered one.slot)
 
   -- closing a socket
-  pub does_closed : IsOne later (Close name) told.0 sockets after slots new → Does at (Close name) moment later sockets after slots new
-  does_closed one =
-      does_one at (Close name) moment later sockets after slots new told.0 sound now
-      (others_of (Close name) (kept-closed found.socket sockets (sockets_after (Close name) sockets) (λ filter. sockets_after (Change name filter) sockets) has_name-of) one.rest) one
+  pub does_closed : IsOne later (Close name) socket.group sockets after slots new → Does at (Close name) old later after new
+  does_closed = does_one (Close name) (kept-closed name socket sockets named)
 
   -- another filter of a socket
-  pub does_changed : (filter : FilterValue) → IsOne later (Change name filter) told.0 sockets after slots new → Does at (Change name filter) moment later sockets after slots new
-  does_changed filter one =
-      does_one at (Change name filter) moment later sockets after slots new told.0 sound now
-      (others_of (Change name filter) (kept-changed found.socket sockets (sockets_after (Close name) sockets) (λ one. sockets_after (Change name one) sockets) has_name-of filter) one.rest) one
+  pub does_changed : (filter : FilterValue) → IsOne later (Change name filter) socket.group sockets after slots new → Does at (Change name filter) old later after new
+  does_changed filter = does_one (Change name filter) (kept-changed name socket sockets named filter)
 
 -- closing all of them
-pub does_left : (at moment later : ℕ) (sockets : List Socket) (slots new : List (Ip × Option ℕ)) → IsSound moment sockets slots → later ≡ max moment at → IsAscending ip_order (keys_of new)
-    → AreMade (slot_left sockets later) slots new → Does at LeaveAll moment later sockets [] slots new
-does_left at moment later sockets slots new sound now ordered made =
-    let done = λ (history : List AcceptedCall) (holds : SocketsHold (value_of moment sockets slots) history).
-    after_all at history moment later sockets slots new (keeps moment sockets slots history sound holds) now ordered made in
-    record {
-      stands = λ history holds. let is = done history holds in SocketsHold-after (read_at at LeaveAll history) history later [] slots new is.0 is.2;
-      keep = λ history holds. let is = done history holds in keeps_farewells at LeaveAll history moment later sockets [] slots new is.0 (keeps moment sockets slots history sound holds) is.1 is.2;
-      back = let is = done sound.history sound.holds in back-of [] new is.0 is.2.are;
-    }
+pub does_left : (at moment later : ℕ) (sockets : List Socket) (slots new : List (Ip × Option ℕ)) (old : SocketsValue) → value_of moment sockets slots ≡ old → IsSound moment sockets slots
+    → later ≡ max moment at → IsAscending ip_order (keys_of new) → AreMade (slot_left sockets later) slots new → Does at LeaveAll old later [] new
+does_left at moment later sockets slots new old view sound now ordered made =
+    does_by at LeaveAll moment later sockets [] slots new old view sound (λ history keep. after_all at history moment later sockets slots new keep now ordered made)
 
 -- what a new socket leaves
-pub record Opens (at : ℕ) (call : SocketCall) (moment later : ℕ) (sockets after : List Socket) (slots new : List (Ip × Option ℕ)) : Type 0 where
-  pub stands : (history : List AcceptedCall) → SocketsHold (value_of moment sockets slots) history → SocketsHold (value_of later after new) (with_call at call history)
+pub record Opens (at : ℕ) (call : SocketCall) (old : SocketsValue) (later : ℕ) (after : List Socket) (new : List (Ip × Option ℕ)) : Type 0 where
+  pub stands : (history : List AcceptedCall) → SocketsHold old history → SocketsHold (value_of later after new) (with_call at call history)
   pub drops : HasNoOldFarewell (value_of later after new)
   pub back : slots_of after (farewells_in new) ≡ new
 
-pub does_opened : (at moment later : ℕ) (name : List ℕ) (group : Ip) (filter : FilterValue) (sockets after : List Socket) (slots between new : List (Ip × Option ℕ)) → IsSound moment sockets slots
-    → later ≡ max moment at → after ≡ sockets_after (Open name group filter) sockets
+pub does_opened : (at moment later : ℕ) (name : List ℕ) (group : Ip) (filter : FilterValue) (sockets after : List Socket) (slots between new : List (Ip × Option ℕ)) (old : SocketsValue)
+    → value_of moment sockets slots ≡ old → IsSound moment sockets slots → later ≡ max moment at → after ≡ sockets_after (Open name group filter) sockets
     → HasSlot group (Some (left_after (some_wants group after) (some_wants group sockets) later (kept_at slots group))) slots between → IsAscending ip_order (keys_of between)
-    → IsAscending ip_order (keys_of new) → AreMade (slot_fresh after later) between new → Opens at (Open name group filter) moment later sockets after slots new
-does_opened at moment later name group filter sockets after slots between new sound now rest slot ordered last fresh =
+    → IsAscending ip_order (keys_of new) → AreMade (slot_fresh after later) between new → Opens at (Open name group filter) old later after new
+does_opened at moment later name group filter sockets after slots between new old view sound now rest slot ordered last fresh =
     let call = Open name group filter in
     let left = left_after (some_wants group after) (some_wants group sockets) later (kept_at slots group) in
     let socket : Socket = record { name = name; group = group; filter = filter } in
@@ -321,11 +277,12 @@ does_opened at moment later name group filter sockets after slots between new so
     after_one at call history moment later sockets after slots between group (keeps moment sockets slots history sound holds) now rest others ordered own in
     let done = λ (history : List AcceptedCall) (holds : SocketsHold (value_of moment sockets slots) history).
     let is = one history holds in after_fresh (read_at at call history) history later after slots between new is.0 is.2 last fresh in
-    record {
+    subst (λ (value : SocketsValue). Opens at call value later after new) view
+    (record {
       stands = λ history holds. let is = done history holds in SocketsHold-after (read_at at call history) history later after slots new (λ at. left_fresh later ((one history holds).0 at)) is.0;
       drops = (done sound.history sound.holds).1;
       back = let is = done sound.history sound.holds in back-of after new (λ at. left_fresh later ((one sound.history sound.holds).0 at)) is.0.are;
-    }
+    })
 
 -- the limit that a new socket passes is why it is refused
 pub refused_opening : (at moment later : ℕ) (name : List ℕ) (group : Ip) (filter : FilterValue) (sockets : List Socket) (slots : List (Ip × Option ℕ)) (old : SocketsValue) (sources : List Ip)
@@ -340,45 +297,19 @@ refused_opening at moment later name group filter sockets slots old sources pass
     ∙ sym (limit ∙ ap (λ (all : List Ip). limit_by sockets slots later group 0 (length all)) listed)
 
 -- and so it is with another filter
-pub refused_change : (at moment later : ℕ) (name : List ℕ) (filter : FilterValue) (sockets : List Socket) (slots : List (Ip × Option ℕ)) (told : Ip × ℕ) (old : SocketsValue) (sources : List Ip)
-    (passed : Option SocketFault) → value_of moment sockets slots ≡ old → IsSound moment sockets slots → later ≡ max moment at → Some told ≡ option_map told_of (socket_named name sockets)
-    → sources ≡ filter.sources → passed ≡ limit_by sockets slots later told.0 told.1 (length sources) → (history : List AcceptedCall) → SocketsHold old history
+pub refused_change : (at moment later : ℕ) (name : List ℕ) (filter : FilterValue) (sockets : List Socket) (slots : List (Ip × Option ℕ)) (socket : Socket) (old : SocketsValue)
+    (before sources : List Ip) (passed : Option SocketFault) → value_of moment sockets slots ≡ old → IsSound moment sockets slots → later ≡ max moment at → socket_named name sockets ≡ Some socket
+    → before ≡ socket.filter.sources → sources ≡ filter.sources → passed ≡ limit_by sockets slots later socket.group (length before) (length sources) → (history : List AcceptedCall) → SocketsHold old history
     → refusal_of at (Change name filter) history ≡ passed
-refused_change at moment later name filter sockets slots told old sources passed view sound now same listed limit history old_holds =
+refused_change at moment later name filter sockets slots socket old before sources passed view sound now found were listed limit history old_holds =
     let holds = subst (λ (value : SocketsValue). SocketsHold value history) (sym view) old_holds in
-    let found = IsFound-of name sockets told same in
     let keep = keeps moment sockets slots history sound holds in
-    let socket = found.socket in
-    refusal-changed at name filter socket history slots keep.kept (subst (HasName name socket) holds.sockets (keep.apart name socket found.found))
-    (ap (socket_named name) (sym holds.sockets) ∙ found.found)
+    refusal-changed at name filter socket history slots keep.kept (subst (HasName name socket) holds.sockets (HasName-of name socket sockets (keep.apart name) found))
+    (ap (socket_named name) (sym holds.sockets) ∙ found)
     ∙ ap (λ (all : List Socket). limit_by all slots (max (latest history) at) socket.group (length socket.filter.sources) (length filter.sources)) (sym holds.sockets)
     ∙ ap (λ (one : ℕ). limit_by sockets slots one socket.group (length socket.filter.sources) (length filter.sources)) (sym (now ∙ ap (λ (one : ℕ). max one at) holds.moment))
-    ∙ ap (λ (one : Ip × ℕ). limit_by sockets slots later one.0 one.1 (length filter.sources)) (sym found.is)
-    ∙ sym (limit ∙ ap (λ (all : List Ip). limit_by sockets slots later told.0 told.1 (length all)) listed)
-
--- what closing a socket leaves is sound
-pub sound_closed : (at moment later : ℕ) (name : List ℕ) (sockets after : List Socket) (slots new : List (Ip × Option ℕ)) (told : Ip × ℕ) → IsSound moment sockets slots
-    → Some told ≡ option_map told_of (socket_named name sockets) → Does at (Close name) moment later sockets after slots new → IsSound later after new
-sound_closed at moment later name sockets after slots new told sound same does =
-    IsSound-after at (Close name) moment later sockets after slots new sound does.stands does.back tt
-    (λ history holds. refusal-closed at name history
-    (ap (λ (all : List Socket). is_some (socket_named name all)) (sym holds.sockets) ∙ ap is_some (IsFound-of name sockets told same).found))
-
-pub sound_left : (at moment later : ℕ) (sockets : List Socket) (slots new : List (Ip × Option ℕ)) → IsSound moment sockets slots → Does at LeaveAll moment later sockets [] slots new → IsSound later [] new
-sound_left at moment later sockets slots new sound does =
-    IsSound-after at LeaveAll moment later sockets [] slots new sound does.stands does.back tt (λ history holds. refusal-all at history)
-
-pub sound_changed : (at moment later : ℕ) (name : List ℕ) (filter : FilterValue) (sockets after : List Socket) (slots new : List (Ip × Option ℕ)) → IsSound moment sockets slots
-    → Does at (Change name filter) moment later sockets after slots new → MayCall (Change name filter) sockets
-    → ((history : List AcceptedCall) → SocketsHold (value_of moment sockets slots) history → refusal_of at (Change name filter) history ≡ None) → IsSound later after new
-sound_changed at moment later name filter sockets after slots new sound does may free =
-    IsSound-after at (Change name filter) moment later sockets after slots new sound does.stands does.back may free
-
-pub sound_opened : (at moment later : ℕ) (name : List ℕ) (group : Ip) (filter : FilterValue) (sockets after : List Socket) (slots new : List (Ip × Option ℕ)) → IsSound moment sockets slots
-    → Opens at (Open name group filter) moment later sockets after slots new → MayCall (Open name group filter) sockets
-    → ((history : List AcceptedCall) → SocketsHold (value_of moment sockets slots) history → refusal_of at (Open name group filter) history ≡ None) → IsSound later after new
-sound_opened at moment later name group filter sockets after slots new sound opens may free =
-    IsSound-after at (Open name group filter) moment later sockets after slots new sound opens.stands opens.back may free
+    ∙ sym (limit ∙ ap (λ (all : List Ip). limit_by sockets slots later socket.group (length before) (length all)) listed
+    ∙ ap (λ (all : List Ip). limit_by sockets slots later socket.group (length all) (length filter.sources)) were)
 
 -- as before any call
 pub IsSound-none : (moment : ℕ) (sockets : List Socket) (slots : List (Ip × Option ℕ)) → moment ≡ 0 → sockets ≡ [] → slots ≡ [] → IsSound moment sockets slots
@@ -387,7 +318,7 @@ IsSound-none moment sockets slots now none empty = record {
   holds = record {
     moment = now;
     sockets = none;
-    farewells = λ group. subst (λ (all : List (Ip × Option ℕ)). IsKept [] group (left_in (farewells_in all) group)) (sym empty)
+    farewells = λ group. subst (λ (all : List (Ip × Option ℕ)). IsKept None 0 (left_in (farewells_in all) group)) (sym empty)
         (record { of_history = λ left is. is; there = λ left is recent. is });
     each = subst (λ (all : List (Ip × Option ℕ)). All (λ one. left_at [] one.group ≡ Some one.left) (farewells_in all)) (sym empty) (All-nil (λ (one : Farewell). left_at [] one.group ≡ Some one.left));
   };
@@ -395,22 +326,10 @@ IsSound-none moment sockets slots now none empty = record {
   back = ap (λ (all : List Socket). slots_of all (farewells_in slots)) none ∙ ap (λ (all : List (Ip × Option ℕ)). slots_of [] (farewells_in all)) empty ∙ sym empty;
 }
 
--- what the first limit asks for of a socket, and that its group has a slot
-pub record MayChange (sockets : List Socket) (slots : List (Ip × Option ℕ)) (told : Ip × ℕ) : Type 0 where
-  pub on : told.1 ≤ listed_on told.0 sockets
-  pub all : told.1 ≤ listed_in (family_of told.0) sockets
-  pub slot : IsSome (slot_at slots told.0)
-
-pub MayChange-of : (moment : ℕ) (name : List ℕ) (sockets : List Socket) (slots : List (Ip × Option ℕ)) (told : Ip × ℕ) → IsSound moment sockets slots
-    → Some told ≡ option_map told_of (socket_named name sockets) → MayChange sockets slots told
-MayChange-of moment name sockets slots told sound same =
-    let found = IsFound-of name sockets told same in
+-- a socket that is open is counted, and its group has a slot
+pub found-counted : (moment : ℕ) (name : List ℕ) (sockets : List Socket) (slots : List (Ip × Option ℕ)) (socket : Socket) → IsSound moment sockets slots → socket_named name sockets ≡ Some socket
+    → IsCounted socket sockets × IsSome (slot_at slots socket.group)
+found-counted moment name sockets slots socket sound found =
     let keep = keeps moment sockets slots sound.history sound sound.holds in
-    let counted = IsCounted-of name found.socket sockets (keep.apart name found.socket found.found) in
-    let left = left_in (farewells_in slots) in
-    subst (MayChange sockets slots) (sym found.is)
-    (record {
-      on = counted.on;
-      all = counted.all;
-      slot = ap is_some (keep.are.each found.socket.group ∙ ap (λ (some : Bool). slot_of some (left found.socket.group)) counted.some);
-    })
+    let counted = IsCounted-of name socket sockets (HasName-of name socket sockets (keep.apart name) found) in
+    (counted, ap is_some (keep.are.each socket.group ∙ ap (λ (some : Bool). slot_of some (left_in (farewells_in slots) socket.group)) counted.some))

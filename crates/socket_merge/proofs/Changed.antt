@@ -1,10 +1,10 @@
 -- The change records from some sockets to others: those of calls, and whose they are.
-use Rattle.std.{proofs.{Common.{◌≡◌, ℕ, Bool, true, false, not, cond, List, [], ◌∷◌, ◌++◌, filter, map, refl, sym, ap, subst, ◌∙◌}, lemmas.List.{map-append, Elements.{All-append, All-cons, All-filter, All-nil}}}, specs.List.{All, flat_map}}
+use Rattle.std.{proofs.{Common.{◌≡◌, ℕ, true, false, not, cond, List, [], ◌∷◌, ◌++◌, filter, map, refl, sym, ap, subst, ◌∙◌}, lemmas.{Bool.{or_parts}, List.{map-append, Elements.{All-append, All-cons, All-filter, All-nil}}}}, specs.List.{All, flat_map}}
 use Rattle.amt_values.{specs.{declared.address.Ip.{Ip}, Group.{is_forwardable}, Order.{ip_order}, Ascending.{ascending, difference, has}}, proofs.{Orders.{ip_order-total}, AscendingLaws.{IsAscending-ascending, has-append, has-ascending}}}
 use Rattle.source_filter.specs.{Changes.{changes_by, changes_on, record_of_some}, Filter.{FilterValue}, Merging.{merged}, declared.mode.Mode.{Mode, TheVariants.{Include, Exclude}}, declared.record.{Record.{Record}, RecordKind.{RecordKind, TheVariants.{ToIn, ToEx, Allow, Block}}}}
 use Rattle.group_records.specs.{Written.{IsOfFamily, is_of_family}, declared.family.Family.{Family}}
 use Rattle.socket_merge.specs.{Changes.{change_records, changed_on, changes_between}, FullReport.{is_empty}, History.{AcceptedCall, Socket, SocketCall, group_opened, groups_opened, moment_read, open_sockets, with_call}, Interface.{filters_on, on_group}, Kept.{IsLawful, has_socket}, Sockets.{SocketsHold, SocketsValue}}
-use Rattle.socket_merge.proofs.{ByGroup.{either_none, flat_map-filter, flat_map-same, group_of, has_socket-listed, unopened}, Reports.{All-said, merged_of_family}}
+use Rattle.socket_merge.proofs.{ByGroup.{flat_map-filter, flat_map-same, group_of, has_socket-listed, unopened}, Reports.{All-said, merged_of_family, nothing_of}}
 
 -- ---- which groups give no record
 
@@ -22,15 +22,11 @@ unchanged before after group first second =
 -- a group that isn't listed has no socket
 none_listed : (before after : List Socket) (group : Ip) → has ip_order (map group_of (before ++ after)) group ≡ false → (has_socket group before ≡ false) × (has_socket group after ≡ false)
 none_listed before after group none =
-    let both = either_none (has ip_order (map group_of before) group) (has ip_order (map group_of after) group)
+    let both = or_parts (has ip_order (map group_of before) group) (has ip_order (map group_of after) group)
     (sym (ap (λ groups. has ip_order groups group) (map-append group_of before after) ∙ has-append ip_order (map group_of before) (map group_of after) group) ∙ none) in
     (has_socket-listed group before ∙ both.0, has_socket-listed group after ∙ both.1)
 
 -- ---- the records of calls
-
-nothing_in : (of : Bool) (here : List Record) → here ≡ [] → cond of here [] ≡ []
-nothing_in true here none = none
-nothing_in false here none = refl
 
 -- the groups are any that have each group with a socket
 pub changes-by : (family : Family) (before after : List Socket) (groups : List Ip) → ((group : Ip) → has ip_order groups group ≡ false → (has_socket group before ≡ false) × (has_socket group after ≡ false))
@@ -41,7 +37,7 @@ changes-by family before after groups none =
     let said : Ip → List Record = λ group. cond (is_of_family family group) (changed group) [] in
     let listed = map group_of (before ++ after) in
     let nothing : (group : Ip) → (has_socket group before ≡ false) × (has_socket group after ≡ false) → said group ≡ [] =
-    λ group both. nothing_in (is_of_family family group) (changed group) (unchanged before after group both.0 both.1) in
+    λ group both. nothing_of family group (changed group) (unchanged before after group both.0 both.1) in
     flat_map-filter changed (is_of_family family) (ascending ip_order listed)
     ∙ flat_map-same said (ascending ip_order listed) (ascending ip_order groups) (IsAscending-ascending ip_order-total listed) (IsAscending-ascending ip_order-total groups)
     (λ group absent. nothing group (none_listed before after group (sym (has-ascending ip_order-total listed group) ∙ absent)))
@@ -54,7 +50,7 @@ unopened_before [] history group none = none
 unopened_before (newest ∷ newer) history group none =
     let older = groups_opened (newer ++ history) in
     unopened_before newer history group
-    (either_none (has ip_order (group_opened newest.call) group) (has ip_order older group) (sym (has-append ip_order (group_opened newest.call) older group) ∙ none)).1
+    (or_parts (has ip_order (group_opened newest.call) group) (has ip_order older group) (sym (has-append ip_order (group_opened newest.call) older group) ∙ none)).1
 
 -- from the sockets of a history to those after more calls
 pub changes-are : (family : Family) (history newer : List AcceptedCall) → changes_between family (open_sockets history) (open_sockets (newer ++ history)) ≡ change_records family history (newer ++ history)
@@ -84,7 +80,7 @@ All-changed P family first second then now each =
     subst (All P)
     (sym (changes-by family (open_sockets first) (open_sockets second) groups
     (λ group none.
-    let both = either_none (has ip_order (groups_opened first) group) (has ip_order (groups_opened second) group) (sym (has-append ip_order (groups_opened first) (groups_opened second) group) ∙ none) in
+    let both = or_parts (has ip_order (groups_opened first) group) (has ip_order (groups_opened second) group) (sym (has-append ip_order (groups_opened first) (groups_opened second) group) ∙ none) in
     (unopened first group both.0, unopened second group both.1))))
     (All-said P Forwarded family (changed_on (open_sockets first) (open_sockets second)) groups (All-append Forwarded (groups_opened first) (groups_opened second) then.forwarded now.forwarded) each)
 

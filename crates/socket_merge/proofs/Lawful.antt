@@ -1,19 +1,10 @@
 -- Accepted calls keep histories lawful: names apart, sources of their families, and counts within the limits.
-use Rattle.std.{proofs.{Common.{◌≡◌, ℕ, ◌≤◌, Bool, true, false, not, cond, is_some, List, [], ◌∷◌, ◌++◌, filter, length, Option, Some, None, refl, sym, ap, subst, ◌∙◌, append-nil, arith}, lemmas.{Bool.{ltb-false}, List.{Elements.{All-cons, All-filter, All-head, All-nil, All-push, All-tail, filter-append}, Filters.{sum_by-filter_both}, Sums.{sum_by_push}}}}, specs.List.{All, flat_map}}
+use Rattle.std.{proofs.{Common.{◌≡◌, ℕ, ◌≤◌, Bool, true, false, not, cond, is_some, List, [], ◌∷◌, ◌++◌, filter, length, Option, Some, None, refl, sym, ap, subst, ◌∙◌, append-nil, arith}, lemmas.{Bool.{cond-false, ltb-false}, List.{Elements.{All-cons, All-filter, All-head, All-nil, All-push, All-tail, filter-append}, Filters.{sum_by-filter_both}, Sums.{sum_by_push}}}}, specs.List.{All, flat_map}}
 use Rattle.amt_values.{specs.{declared.address.Ip.{Ip}, Group.{is_forwardable}, Conditions.{first_holding}}, proofs.ConditionLaws.{NoneHolds-of, skipped}}
 use Rattle.source_filter.specs.Filter.{FilterValue}
 use Rattle.group_records.specs.{Written.{is_of_family}, declared.family.Family.{Family}}
 use Rattle.socket_merge.specs.{FullReport.{is_empty}, History.{AcceptedCall, Change, Close, LeaveAll, Open, Socket, SocketCall, groups_opened, latest, open_sockets, socket_named, sockets_after, with_call}, Interface.{on_group, same_group}, Kept.{IsLawful, has_socket, listed, listed_in, listed_on}, Refusal.{FillsNoMore, IsWithinLimits, change_conditions, family_of, is_open, limit_conditions, limits_after, raw_report_length, raw_sources, refusal_of}, Sockets.{AreOfGroup}, declared.fault.SocketFault.{TheVariants.{Taken}}}
 use Rattle.socket_merge.proofs.{Amounts.{AreApart-changed, AreApart-filter, AreApart-opened, HasName, HasName-of, has_name, kept-changed, sum-changed, sum-closed, with_filter}, HoldsAfter.{read_at}, RawOctets.{TakesAway, family_is, raw-sum, raw-taken, raw_sources-listed}, Reports.{IsOfOwnFamily}, Wanted.{same_group-exact}}
-
--- within the limits
-pub record IsWithin (sources octets : ℕ) : Type 0 where
-  pub few : sources ≤ 32
-  pub short : octets ≤ 1400
-
-pub IsWithin-of : (sources octets : ℕ) → first_holding (limit_conditions sources octets) ≡ None → IsWithin sources octets
-IsWithin-of sources octets none =
-    let each = NoneHolds-of (limit_conditions sources octets) none in record { few = ltb-false 32 sources each.0; short = ltb-false 1400 octets each.1.0 }
 
 -- the sockets of the other groups are as they were
 abbrev pub AreOthersKept : Ip → List Socket → List Socket → Type 0
@@ -110,10 +101,12 @@ limits-one : (newest : AcceptedCall) (older : List AcceptedCall) (group : Ip) �
     → ((family : Family) → is_of_family family group ≡ false → listed_in family (open_sockets (newest ∷ older)) ≤ listed_in family (open_sockets older)) → IsWithinLimits older
     → IsWithinLimits (newest ∷ older)
 limits-one newest older group onward none others less limits =
-    let within = IsWithin-of (length (raw_sources group (open_sockets (newest ∷ older)))) (raw_report_length (family_of group) (newest ∷ older)) none in
+    let each = NoneHolds-of (limit_conditions (length (raw_sources group (open_sockets (newest ∷ older)))) (raw_report_length (family_of group) (newest ∷ older))) none in
+    let few = ltb-false 32 (length (raw_sources group (open_sockets (newest ∷ older)))) each.0 in
+    let short = ltb-false 1400 (raw_report_length (family_of group) (newest ∷ older)) each.1.0 in
     record {
-      sources = λ other. sources_by (same_group other group) group other (open_sockets older) (open_sockets (newest ∷ older)) refl within.few others (limits.sources other);
-      octets = λ family. octets_by (is_of_family family group) family newest older group refl onward within.short others (less family) (limits.octets family);
+      sources = λ other. sources_by (same_group other group) group other (open_sockets older) (open_sockets (newest ∷ older)) refl few others (limits.sources other);
+      octets = λ family. octets_by (is_of_family family group) family newest older group refl onward short others (less family) (limits.octets family);
     }
 
 none_found : (found : Option Socket) → is_some found ≡ false → found ≡ None
@@ -127,11 +120,6 @@ MayCall (Change name filter) sockets = (socket : Socket) → socket_named name s
 MayCall (Close name) sockets = Unit {0}
 MayCall LeaveAll sockets = Unit {0}
 
--- the term of a socket that doesn't count
-no_term : (of : Bool) (number : ℕ) → of ≡ false → cond of number 0 ≡ 0
-no_term true number apart = absurd cc
-no_term false number apart = refl
-
 All-again : (P : Socket → Type 0) (before after : List Socket) (one other : Socket) → P other → All P (before ++ one ∷ after) → All P (before ++ other ∷ after)
 All-again P [] after one other is all = All-cons P other after is (All-tail P one after all)
 All-again P (first ∷ more) after one other is all =
@@ -142,18 +130,16 @@ lawful_changed : (at : ℕ) (name : List ℕ) (filter : FilterValue) (history : 
 lawful_changed at name filter history None lawful may is free = absurd cc
 lawful_changed at name filter history (Some socket) lawful may is free =
     let sockets = open_sockets history in
-    let closed = sockets_after (Close name) sockets in
-    let changed : FilterValue → List Socket = λ one. sockets_after (Change name one) sockets in
     let named : HasName name socket sockets = HasName-of name socket sockets (lawful.apart name) is in
     record {
-      apart = AreApart-changed socket sockets closed changed named filter lawful.apart;
+      apart = AreApart-changed name socket sockets named filter lawful.apart;
       forwarded = lawful.forwarded;
       family = subst (All IsOfOwnFamily) (sym (named.again filter))
           (All-again IsOfOwnFamily named.before named.after socket (with_filter filter socket) (may socket is) (subst (All IsOfOwnFamily) named.whole lawful.family));
-      limits = limits-one (read_at at (Change name filter) history) history socket.group (omega arith) free (kept-changed socket sockets closed changed named filter)
+      limits = limits-one (read_at at (Change name filter) history) history socket.group (omega arith) free (kept-changed name socket sockets named filter)
           (λ family apart.
           let measure : Socket → ℕ = λ one. cond (is_of_family family one.group) (length one.filter.sources) 0 in
-          omega (arith, sum-closed socket sockets closed changed named measure, sum-changed socket sockets closed changed named measure filter, no_term (is_of_family family socket.group) (length filter.sources) apart)) lawful.limits;
+          omega (arith, sum-closed name socket sockets named measure, sum-changed name socket sockets named measure filter, cond-false (is_of_family family socket.group) (length filter.sources) 0 apart)) lawful.limits;
     }
 
 -- accepted calls leave a lawful history
@@ -169,7 +155,7 @@ IsLawful-next at (Open name group filter) history lawful may free =
       forwarded = All-cons (λ one. is_forwardable one ≡ true) group (groups_opened history) may.0 lawful.forwarded;
       family = All-push IsOfOwnFamily sockets socket lawful.family may.1;
       limits = limits-one (read_at at (Open name group filter) history) history group (omega arith) rest.1 (kept-opened sockets socket)
-          (λ family apart. omega (arith, sum_by_push (λ (one : Socket). cond (is_of_family family one.group) (length one.filter.sources) 0) sockets socket, no_term (is_of_family family group) (length filter.sources) apart)) lawful.limits;
+          (λ family apart. omega (arith, sum_by_push (λ (one : Socket). cond (is_of_family family one.group) (length one.filter.sources) 0) sockets socket, cond-false (is_of_family family group) (length filter.sources) 0 apart)) lawful.limits;
     }
 IsLawful-next at (Change name filter) history lawful may free =
     lawful_changed at name filter history (socket_named name (open_sockets history)) lawful may refl free

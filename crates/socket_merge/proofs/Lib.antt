@@ -4,7 +4,6 @@ pub mod Calls
 pub mod Changed
 pub mod HoldsAfter
 pub mod Lawful
-pub mod NamedOnes
 pub mod RawOctets
 pub mod Refused
 pub mod Reports

@@ -1,10 +1,10 @@
 -- Why calls are refused, by what is kept.
-use Rattle.std.{proofs.{Common.{◌≡◌, ℕ, ◌+◌, ◌-◌, ◌≤◌, max, Bool, true, false, not, ◌&&◌, ◌||◌, cond, is_some, List, [], ◌∷◌, ◌++◌, filter, length, map, Option, Some, None, Ok, Err, refl, sym, ap, subst, ◌∙◌, arith}, Math.Bool.{or-true}, lemmas.{Cmp.{eq_by_cmp_equiv}, List.{length-map, Sums.{sum_by_push}}, Map.{Keys.{IsDistinct-cons, IsDistinct-from_sorted}, Made.{length-from_same_keys}}}}, specs.{List.{AllByRecursion, sum_by}, Ordering.{eq_by_cmp}}}
+use Rattle.std.{proofs.{Common.{◌≡◌, ℕ, ◌+◌, ◌-◌, ◌≤◌, max, Bool, true, false, not, ◌&&◌, ◌||◌, cond, is_some, List, [], ◌∷◌, ◌++◌, filter, length, map, Option, Some, None, Ok, Err, refl, sym, ap, subst, ◌∙◌, arith}, Math.Bool.{and-false, or-false, or-true}, lemmas.{Bool.{cond-true, or_parts}, Cmp.{eq_by_cmp_equiv}, List.{length-map, Sums.{sum_by_push}}, Map.{Keys.{IsDistinct-cons, IsDistinct-from_sorted}, Made.{length-from_same_keys}}}}, specs.{List.{AllByRecursion, sum_by}, Ordering.{eq_by_cmp}}}
 use Rattle.amt_values.{specs.{declared.address.Ip.{Ip}, Order.{ip_order}, Ascending.{IsAscending, has}, Conditions.{first_holding}}, proofs.{Orders.{ip_order-exact, ip_order-total}, AscendingLaws.{IsAscending-ascending, IsAscending-filter, has-filter}}}
 use Rattle.source_filter.specs.Filter.{FilterValue}
 use Rattle.group_records.specs.{Written.{is_of_family}, declared.family.Family.{Family}}
 use Rattle.socket_merge.specs.{FullReport.{is_empty}, History.{AcceptedCall, Change, Close, LeaveAll, Open, Socket, latest, open_sockets, socket_named, sockets_after, with_call}, Interface.{is_wanted, left_at, on_group, same_group}, Kept.{farewells_in, has_place_besides, has_socket, left_after, listed_in, listed_on, places_besides, raw_octets, slots_of}, Refusal.{change_conditions, family_of, has_place, is_open, limit_conditions, limits_after, may_be_due, raw_report_length, refusal_of}, Sockets.{AnswersRefusal, IsKept, left_in}, declared.fault.SocketFault.{SocketFault, TheVariants.{Memory, NoSocket, Taken}}}
-use Rattle.socket_merge.proofs.{Amounts.{HasName, kept-changed, sum-changed, sum-closed, with_filter}, ByGroup.{either_none, group_of, same_group-turned}, HoldsAfter.{AreFollowed-one, Stands, Stands-next, may_be_due-kept, read_at}, Lawful.{AreOthersKept, kept-opened}, RawOctets.{IsAscending-raw, due_earlier, few-raw, has-raw, of_own_family, raw-is, raw_groups, raw_sources-listed}, Slots.{farewell_group, groups_in, has-groups}, Wanted.{same_group-exact, same_group-itself}}
+use Rattle.socket_merge.proofs.{Amounts.{HasName, kept-changed, sum-changed, sum-closed, with_filter}, ByGroup.{group_of, same_group-turned}, HoldsAfter.{AreFollowed-one, Stands, Stands-next, may_be_due-kept, read_at}, Lawful.{AreOthersKept, kept-opened}, RawOctets.{IsAscending-raw, due_earlier, few-raw, has-raw, of_own_family, raw-is, raw_groups, raw_sources-listed}, Slots.{farewell_group, groups_in, has-groups}, Wanted.{same_group-exact, same_group-itself}}
 
 -- ---- the groups that have a place, by the slots
 
@@ -18,21 +18,13 @@ filter_made : (test : Ip × Option ℕ → Bool) (left : Ip → Option ℕ) (gro
 filter_made test left [] = refl
 filter_made test left (group ∷ more) = made_first (test (group, left group)) left group (filter (λ one. test (one, left one)) more) (filter test (map (λ one. (one, left one)) more)) (filter_made test left more)
 
-or_false : (test : Bool) → (test || false) ≡ test
-or_false true = refl
-or_false false = refl
-
-and_false : (test : Bool) → (test && false) ≡ false
-and_false true = refl
-and_false false = refl
-
 few_by : (some apart of : Bool) (left : Option ℕ) (later : ℕ) (due : Bool) → (may_be_due later left ≡ true → due ≡ true)
     → ((some || is_some left) && (apart && (of && (not (is_some left) || (may_be_due later left || some))))) ≡ true → (of && (some || due)) ≡ true
 few_by true true true left later due is listed = refl
 few_by true true false left later due is listed = listed
 few_by true false of left later due is listed = absurd cc
 few_by false apart of None later due is listed = absurd cc
-few_by false true true (Some moment) later due is listed = is (sym (or_false (may_be_due later (Some moment))) ∙ listed)
+few_by false true true (Some moment) later due is listed = is (sym (or-false (may_be_due later (Some moment))) ∙ listed)
 few_by false true false (Some moment) later due is listed = listed
 few_by false false of (Some moment) later due is listed = absurd cc
 
@@ -42,7 +34,7 @@ plain_by true true None later = refl
 plain_by true true (Some moment) later = or-true (may_be_due later (Some moment))
 plain_by true false left later = refl
 plain_by false true None later = refl
-plain_by false true (Some moment) later = or_false (may_be_due later (Some moment))
+plain_by false true (Some moment) later = or-false (may_be_due later (Some moment))
 plain_by false false None later = refl
 plain_by false false (Some moment) later = refl
 
@@ -55,7 +47,7 @@ member_by false of some after left later due own kept is =
 
 apart_all : (group : Ip) (groups : List Ip) → has ip_order groups group ≡ false → AllByRecursion (λ other. same_group group other ≡ false) groups
 apart_all group [] none = tt
-apart_all group (next ∷ more) none = let both = either_none (same_group group next) (has ip_order more group) none in (both.0, apart_all group more both.1)
+apart_all group (next ∷ more) none = let both = or_parts (same_group group next) (has ip_order more group) none in (both.0, apart_all group more both.1)
 
 -- what is kept stands for the history
 pub record IsKeptBy (history : List AcceptedCall) (slots : List (Ip × Option ℕ)) : Type 0 where
@@ -98,7 +90,7 @@ module _ (history : List AcceptedCall) (slots : List (Ip × Option ℕ)) (is : I
         places-are,
         few-raw family history others IsAscending-others
             (λ other some. few_by (has_socket other sockets) (not (same_group group other)) (is_of_family family other) (left other) later (may_be_due (latest history) (left_at history other))
-            (λ due. sym (may_be_due-kept history other (left other) (latest history) (is.stands other) (omega arith)) ∙ due_earlier (latest history) later (left other) onward due)
+            (λ due. sym (may_be_due-kept (left_at history other) (left other) (latest history) (latest history) (is.stands other) (omega arith)) ∙ due_earlier (latest history) later (left other) onward due)
             (sym (has-others other) ∙ some)),
       )
 
@@ -107,7 +99,7 @@ module _ (history : List AcceptedCall) (slots : List (Ip × Option ℕ)) (is : I
       has-others group
       ∙ ap (λ (same : Bool). (has_socket group sockets || is_some (left group)) && (not same && (is_of_family family group && (not (is_some (left group)) || (may_be_due later (left group) || has_socket group sockets)))))
       (same_group-itself group)
-      ∙ and_false (has_socket group sockets || is_some (left group))
+      ∙ and-false (has_socket group sockets || is_some (left group))
 
 -- a call that sets a filter of one group
 module _ (newest : AcceptedCall) (history : List AcceptedCall) (slots : List (Ip × Option ℕ)) (is : IsKeptBy history slots) (onward : latest history ≤ newest.moment) (group : Ip)
@@ -122,7 +114,7 @@ module _ (newest : AcceptedCall) (history : List AcceptedCall) (slots : List (Ip
   due_other other apart =
       let now : Option ℕ = left_after (is_wanted next group) (is_wanted history group) newest.moment (lefts group) in
       let stands = Stands-next newest history lefts (λ one. cond (same_group group one) now (lefts one)) onward is.stands (AreFollowed-one newest history lefts group now is.stands kept refl) in
-      may_be_due-kept next other (lefts other) newest.moment (subst (λ (test : Bool). IsKept next other (cond test now (lefts other))) apart (stands other)) (omega arith)
+      may_be_due-kept (left_at next other) (lefts other) newest.moment newest.moment (subst (λ (test : Bool). IsKept (left_at next other) newest.moment (cond test now (lefts other))) apart (stands other)) (omega arith)
 
   own_place : (other : Ip) → same_group other group ≡ true → (is_of_family (family_of group) other && has_place next other) ≡ true
   own_place other same =
@@ -162,10 +154,6 @@ limit_by sockets slots later group before after =
     first_holding (limit_conditions (listed_on group sockets - before + after)
     (raw_octets (family_of group) (places_besides sockets (family_of group) later group slots + 1) (listed_in (family_of group) sockets - before + after)))
 
-own_term : (of : Bool) (number : ℕ) → of ≡ true → cond of number 0 ≡ number
-own_term true number is = refl
-own_term false number is = absurd cc
-
 -- the terms of a socket in the sums of its group and family
 abbrev on_term : Ip → Socket → ℕ
 on_term group one = cond (same_group group one.group) (length one.filter.sources) 0
@@ -196,8 +184,8 @@ refusal-opened at name group filter history slots is absent =
     let next = with_call at (Open name group filter) history in
     ap (λ (test : Bool). cond test (Some Taken) (first_holding (limits_after group next))) absent
     ∙ ap first_holding (limits-are (read_at at (Open name group filter) history) history slots is (omega arith) group (kept-opened sockets socket) (some_on group sockets socket [] refl) _ _
-    (omega (arith, sum_by_push (on_term group) sockets socket, own_term (same_group group group) (length filter.sources) (same_group-itself group)))
-    (omega (arith, sum_by_push (in_term group) sockets socket, own_term (is_of_family (family_of group) group) (length filter.sources) (of_own_family group))))
+    (omega (arith, sum_by_push (on_term group) sockets socket, cond-true (same_group group group) (length filter.sources) 0 (same_group-itself group)))
+    (omega (arith, sum_by_push (in_term group) sockets socket, cond-true (is_of_family (family_of group) group) (length filter.sources) 0 (of_own_family group))))
 
 -- no socket of the name is open
 pub refusal-unknown : (at : ℕ) (name : List ℕ) (filter : FilterValue) (history : List AcceptedCall) → socket_named name (open_sockets history) ≡ None
@@ -221,30 +209,24 @@ pub record IsCounted (socket : Socket) (sockets : List Socket) : Type 0 where
   pub some : has_socket socket.group sockets ≡ true
 
 module _ (name : List ℕ) (socket : Socket) (sockets : List Socket) (named : HasName name socket sockets) where
-  abbrev closed : List Socket
-  closed = sockets_after (Close name) sockets
-
-  abbrev changed : FilterValue → List Socket
-  changed filter = sockets_after (Change name filter) sockets
-
   own_on : (number : ℕ) → cond (same_group socket.group socket.group) number 0 ≡ number
-  own_on number = own_term (same_group socket.group socket.group) number (same_group-itself socket.group)
+  own_on number = cond-true (same_group socket.group socket.group) number 0 (same_group-itself socket.group)
 
   own_in : (number : ℕ) → cond (is_of_family (family_of socket.group) socket.group) number 0 ≡ number
-  own_in number = own_term (is_of_family (family_of socket.group) socket.group) number (of_own_family socket.group)
+  own_in number = cond-true (is_of_family (family_of socket.group) socket.group) number 0 (of_own_family socket.group)
 
   pub IsCounted-of : IsCounted socket sockets
   IsCounted-of = record {
-    on = omega (arith, sum-closed socket sockets closed changed named (on_term socket.group), own_on (length socket.filter.sources));
-    all = omega (arith, sum-closed socket sockets closed changed named (in_term socket.group), own_in (length socket.filter.sources));
+    on = omega (arith, sum-closed name socket sockets named (on_term socket.group), own_on (length socket.filter.sources));
+    all = omega (arith, sum-closed name socket sockets named (in_term socket.group), own_in (length socket.filter.sources));
     some = ap (has_socket socket.group) named.whole ∙ some_on socket.group named.before socket named.after refl;
   }
 
   listed-changed : (term : Socket → ℕ) (filter : FilterValue) → term socket ≡ length socket.filter.sources → term (with_filter filter socket) ≡ length filter.sources
-      → sum_by term (changed filter) ≡ sum_by term sockets - length socket.filter.sources + length filter.sources
-  listed-changed term filter here after = omega (arith, here, after, sum-closed socket sockets closed changed named term, sum-changed socket sockets closed changed named term filter)
+      → sum_by term (sockets_after (Change name filter) sockets) ≡ sum_by term sockets - length socket.filter.sources + length filter.sources
+  listed-changed term filter here after = omega (arith, here, after, sum-closed name socket sockets named term, sum-changed name socket sockets named term filter)
 
-  some-changed : (filter : FilterValue) → has_socket socket.group (changed filter) ≡ true
+  some-changed : (filter : FilterValue) → has_socket socket.group (sockets_after (Change name filter) sockets) ≡ true
   some-changed filter = ap (has_socket socket.group) (named.again filter) ∙ some_on socket.group named.before (with_filter filter socket) named.after refl
 
 -- a limit that another filter passes
@@ -256,7 +238,7 @@ refusal-changed at name filter socket history slots is named found =
     let sockets = open_sockets history in
     ap (λ (one : Option Socket). first_holding (change_conditions one (with_call at (Change name filter) history))) found
     ∙ ap first_holding (limits-are (read_at at (Change name filter) history) history slots is (omega arith) socket.group
-    (kept-changed socket sockets (sockets_after (Close name) sockets) (λ one. sockets_after (Change name one) sockets) named filter) (some-changed name socket sockets named filter) _ _
+    (kept-changed name socket sockets named filter) (some-changed name socket sockets named filter) _ _
     (listed-changed name socket sockets named (on_term socket.group) filter (own_on name socket sockets named (length socket.filter.sources)) (own_on name socket sockets named (length filter.sources)))
     (listed-changed name socket sockets named (in_term socket.group) filter (own_in name socket sockets named (length socket.filter.sources)) (own_in name socket sockets named (length filter.sources))))
 

@@ -1,11 +1,11 @@
 -- What a full report says by the slots, whose records it has, and how long it is.
 use Rattle.std.proofs.Common.{◌≡◌, ℕ, ◌+◌, ◌*◌, ◌≤◌, min, Bool, true, false, ◌||◌, cond, is_some, List, [], ◌∷◌, ◌++◌, filter, length, map, Option, Some, None, refl, sym, ap, subst, ◌∙◌, append-nil, arith}
-use Rattle.std.{specs.{List.{All, flat_map, list_any, sum_by}}, proofs.lemmas.{Bool.{ltb-true, le-leb}, List.{Concat.{flat_map-append}, Elements.{All-append, All-cons, All-head, All-nil, All-tail}, Folds.{flat_map-map, fold-map}, Sums.{sum_by-append, sum_by-cons, sum_by-le-sum_by}}}}
+use Rattle.std.{specs.{List.{All, flat_map, list_any, sum_by}}, proofs.lemmas.{Bool.{cond_both, ltb-true, le-leb, or_parts, or_right}, List.{Concat.{flat_map-append}, Elements.{All-append, All-cons, All-head, All-nil, All-tail}, Folds.{Any-from_list_any, flat_map-map, fold-map, list_any-from_Any}, Sums.{sum_by-append, sum_by-cons, sum_by-le-sum_by}}}}
 use Rattle.amt_values.{specs.{declared.address.Ip.{Ip}, Group.{is_forwardable}, Order.{ip_order}, Ascending.{ascending, has}}, proofs.{Orders.{ip_order-total}, AscendingLaws.{IsAscending-ascending, has-ascending}}}
 use Rattle.source_filter.specs.{Filter.{FilterValue, wants_any}, Merging.{merged}, declared.record.Record.{Record}}
 use Rattle.group_records.specs.{Family.{width}, Reading.{head_length}, Written.{IsOfFamily, is_of_family, report_length}, declared.family.Family.{Family, TheVariants.{V4, V6}}}
 use Rattle.socket_merge.specs.{FullReport.{farewell, full_on, full_report_of, groups_of, is_recent, longest_farewell, states}, History.{AcceptedCall, Socket, groups_opened, latest, open_sockets}, Interface.{filters_on, interface, is_wanted, left_at, on_group, same_group}, Kept.{IsLawful, farewells_in, has_socket, said_of, said_on, slots_of, some_recent}, Refusal.{family_of, has_place, may_be_due, raw_report_length, raw_sources}, Sockets.{AreOfGroup, left_in}}
-use Rattle.socket_merge.proofs.{Amounts.{listing, sum_by-on_group}, ByGroup.{either_none, flat_map-filter, flat_map-same, group_of, opened-left, or_there, unopened, wanted-some}, HoldsAfter.{Stands, is_recent-kept}, RawOctets.{family_is, raw-sum, raw_here, raw_sources-listed}, Slots.{farewell_group, groups_in, has-groups}, Wanted.{All-ascending, All-merged, length-merged, same_group-exact, source_number}}
+use Rattle.socket_merge.proofs.{Amounts.{listing, sum_by-on_group}, ByGroup.{flat_map-filter, flat_map-same, group_of, opened-left, unopened, wanted-some}, HoldsAfter.{Stands, is_recent-kept}, RawOctets.{family_is, raw-sum, raw_here, raw_sources-listed}, Slots.{farewell_group, groups_in, has-groups}, Wanted.{All-ascending, All-merged, any-map, length-merged, same_group-exact, source_number}}
 
 -- ---- by groups
 
@@ -14,17 +14,13 @@ all_first P Such f [] each all = All-nil P
 all_first P Such f (group ∷ more) each all =
     All-append P (f group) (flat_map f more) (each group (All-head Such group more all)) (all_first P Such f more each (All-tail Such group more all))
 
-of_by : (P : Record → Type 0) (of : Bool) (here : List Record) → (of ≡ true → All P here) → All P (cond of here [])
-of_by P true here each = each refl
-of_by P false here each = All-nil P
-
 -- what holds of what is said of each such group of the family holds of all that is said of such groups
 pub All-said : (P : Record → Type 0) (Such : Ip → Type 0) (family : Family) (f : Ip → List Record) (groups : List Ip) → All Such groups
     → ((group : Ip) → Such group → is_of_family family group ≡ true → All P (f group)) → All P (flat_map f (filter (is_of_family family) (ascending ip_order groups)))
 All-said P Such family f groups all each =
     subst (All P) (sym (flat_map-filter f (is_of_family family) (ascending ip_order groups)))
     (all_first P Such (λ group. cond (is_of_family family group) (f group) []) (ascending ip_order groups)
-    (λ group is. of_by P (is_of_family family group) (f group) (each group is)) (All-ascending Such groups all))
+    (λ group is. cond_both (is_of_family family group) (f group) [] (All P) (each group is) (λ other. All-nil P)) (All-ascending Such groups all))
 
 -- the sources of the filter are of the family
 abbrev pub AreOf : Family → FilterValue → Type 0
@@ -34,17 +30,13 @@ AreOf family filter = All (λ source. is_of_family family source ≡ true) filte
 abbrev pub IsOfOwnFamily : Socket → Type 0
 IsOfOwnFamily socket = AreOfGroup socket.group socket.filter
 
-filter_first : (family : Family) (test : Bool) (socket : Socket) (rest : List Socket) → (test ≡ true → AreOf family socket.filter) → All (AreOf family) (map (λ (one : Socket). one.filter) rest)
-    → All (AreOf family) (map (λ (one : Socket). one.filter) (cond test (socket ∷ rest) rest))
-filter_first family true socket rest here all = All-cons (AreOf family) socket.filter (map (λ (one : Socket). one.filter) rest) (here refl) all
-filter_first family false socket rest here all = all
-
 filters_of_family : (family : Family) (group : Ip) (sockets : List Socket) → is_of_family family group ≡ true → All IsOfOwnFamily sockets → All (AreOf family) (filters_on group sockets)
 filters_of_family family group [] of all = All-nil (AreOf family)
 filters_of_family family group (socket ∷ more) of all =
-    filter_first family (same_group group socket.group) socket (on_group group more)
-    (λ same. subst (λ (one : Family). AreOf one socket.filter) (sym (family_is family group of ∙ ap family_of (same_group-exact group socket.group same))) (All-head IsOfOwnFamily socket more all))
-    (filters_of_family family group more of (All-tail IsOfOwnFamily socket more all))
+    let rest = filters_of_family family group more of (All-tail IsOfOwnFamily socket more all) in
+    cond_both (same_group group socket.group) (socket ∷ on_group group more) (on_group group more) (λ on. All (AreOf family) (map (λ (one : Socket). one.filter) on))
+    (λ same. All-cons (AreOf family) socket.filter (filters_on group more)
+    (subst (λ (one : Family). AreOf one socket.filter) (sym (family_is family group of ∙ ap family_of (same_group-exact group socket.group same))) (All-head IsOfOwnFamily socket more all)) rest) (λ other. rest)
 
 -- the sources that are wanted of a group of the family
 pub merged_of_family : (family : Family) (group : Ip) (sockets : List Socket) → is_of_family family group ≡ true → All IsOfOwnFamily sockets → AreOf family (merged (filters_on group sockets))
@@ -134,7 +126,7 @@ full-within_raw family history at keep onward =
     (λ group. said_less family (is_wanted history group) (is_recent at keep (left_at history group)) (has_place history group) group (interface history group) (length (raw_sources group (open_sockets history)))
     (merged-few group (open_sockets history))
     (λ wanted. ap (λ (some : Bool). some || may_be_due (latest history) (left_at history group)) (wanted-some (open_sockets history) group wanted))
-    (λ lasts. or_there (has_socket group (open_sockets history)) (may_be_due (latest history) (left_at history group)) (due_where_recent (latest history) at keep (left_at history group) onward lasts)))
+    (λ lasts. or_right (has_socket group (open_sockets history)) (may_be_due (latest history) (left_at history group)) (due_where_recent (latest history) at keep (left_at history group) onward lasts)))
 
 -- ---- what is said by the slots
 
@@ -155,9 +147,9 @@ none_kept : (left : Option ℕ) → is_some left ≡ false → left ≡ None
 none_kept None is = refl
 none_kept (Some moment) is = absurd cc
 
-nothing_of : (of : Bool) (here : List Record) → here ≡ [] → cond of here [] ≡ []
-nothing_of true here none = none
-nothing_of false here none = refl
+-- where nothing is said of a group, nothing is said of it by its family
+pub nothing_of : (family : Family) (group : Ip) (here : List Record) → here ≡ [] → cond (is_of_family family group) here [] ≡ []
+nothing_of family group here none = cond_both (is_of_family family group) here [] (λ said. said ≡ []) (λ own. none) (λ other. refl)
 
 nothing_kept : (history : List AcceptedCall) (group : Ip) (left : Option ℕ) → ((moment : ℕ) → left ≡ Some moment → left_at history group ≡ Some moment) → has ip_order (groups_opened history) group ≡ false → left ≡ None
 nothing_kept history group None is none = refl
@@ -176,11 +168,11 @@ full_report-is family history slots at keep back stands onward =
     ap (flat_map (said_of family sockets at keep)) (sym back)
     ∙ flat_map-map (said_of family sockets at keep) (with_left left) groups
     ∙ flat_map-same said groups opened (IsAscending-ascending ip_order-total (map group_of sockets ++ map farewell_group (farewells_in slots))) (IsAscending-ascending ip_order-total (groups_opened history))
-    (λ group absent. let none = either_none (has_socket group sockets) (is_some (left group)) (sym (has-groups sockets (farewells_in slots) group) ∙ absent) in
-    nothing_of (is_of_family family group) _ (no_socket sockets group at keep (left group) none.0 (none_kept (left group) none.1)))
+    (λ group absent. let none = or_parts (has_socket group sockets) (is_some (left group)) (sym (has-groups sockets (farewells_in slots) group) ∙ absent) in
+    nothing_of family group _ (no_socket sockets group at keep (left group) none.0 (none_kept (left group) none.1)))
     (λ group absent. let none = sym (has-ascending ip_order-total (groups_opened history) group) ∙ absent in
-    nothing_of (is_of_family family group) _ (no_socket sockets group at keep (left group) (unopened history group none) (nothing_kept history group (left group) (stands group).of_history none)))
-    ∙ (λ i. flat_map (λ group. cond (is_of_family family group) (said_by (is_wanted history group) (is_recent-kept history group (left group) at keep (stands group) onward i) group (interface history group)) []) opened)
+    nothing_of family group _ (no_socket sockets group at keep (left group) (unopened history group none) (nothing_kept history group (left group) (stands group).of_history none)))
+    ∙ (λ i. flat_map (λ group. cond (is_of_family family group) (said_by (is_wanted history group) (is_recent-kept (left_at history group) (left group) (latest history) at keep (stands group) onward i) group (interface history group)) []) opened)
     ∙ sym (flat_map-filter (full_on history at keep) (is_of_family family) opened)
 
 -- nothing is said of a group of another family
@@ -192,32 +184,17 @@ nothing_said family sockets at keep done slot other =
 
 -- ---- whether it is quiet
 
-at_by : (test rest : Bool) (q : Ip → Bool) (group next : Ip) (later : Bool) → (test ≡ true → group ≡ next) → q group ≡ true → (rest ≡ true → later ≡ true) → (test || rest) ≡ true → (q next || later) ≡ true
-at_by true rest q group next later same passes more some = ap (λ (here : Bool). here || later) (ap q (sym (same refl)) ∙ passes)
-at_by false rest q group next later same passes more some = or_there (q next) later (more some)
-
-any_at : (q : Ip → Bool) (groups : List Ip) (group : Ip) → q group ≡ true → has ip_order groups group ≡ true → list_any q groups ≡ true
-any_at q [] group passes listed = absurd cc
-any_at q (next ∷ more) group passes listed =
-    at_by (same_group group next) (has ip_order more group) q group next (list_any q more) (same_group-exact group next) passes (any_at q more group passes) listed
-
-within_by : (here later all : Bool) → (here ≡ true → all ≡ true) → (later ≡ true → all ≡ true) → (here || later) ≡ true → all ≡ true
-within_by true later all first rest some = first refl
-within_by false later all first rest some = rest some
-
 any_within : (q : Ip → Bool) (xs ys : List Ip) → ((group : Ip) → q group ≡ true → has ip_order ys group ≡ true) → list_any q xs ≡ true → list_any q ys ≡ true
-any_within q [] ys listed some = absurd cc
-any_within q (next ∷ more) ys listed some = within_by (q next) (list_any q more) (list_any q ys) (λ here. any_at q ys next here (listed next here)) (any_within q more ys listed) some
+any_within q xs ys listed some =
+    let one = Any-from_list_any q xs some in
+    let there = Any-from_list_any (same_group one.1) ys (listed one.1 one.4) in
+    list_any-from_Any q ys (there.0, there.1, there.2, there.3, ap q (sym (same_group-exact one.1 there.1 there.4)) ∙ one.4)
 
 both_ways : (first second : Bool) → (first ≡ true → second ≡ true) → (second ≡ true → first ≡ true) → first ≡ second
 both_ways true true there back = refl
 both_ways true false there back = let no = there refl in absurd cc
 both_ways false true there back = let no = back refl in absurd cc
 both_ways false false there back = refl
-
-any-made : (left : Ip → Option ℕ) (at keep : ℕ) (groups : List Ip) → some_recent at keep (map (with_left left) groups) ≡ list_any (λ group. is_recent at keep (left group)) groups
-any-made left at keep [] = refl
-any-made left at keep (group ∷ more) = ap (λ (later : Bool). is_recent at keep (left group) || later) (any-made left at keep more)
 
 recent_some : (at keep : ℕ) (left : Option ℕ) → is_recent at keep left ≡ true → is_some left ≡ true
 recent_some at keep None recent = absurd cc
@@ -233,9 +210,9 @@ pub some_recent-is : (history : List AcceptedCall) (sockets : List Socket) (slot
 some_recent-is history sockets slots at keep back stands onward =
     let left = left_in (farewells_in slots) in
     let groups = groups_in sockets (farewells_in slots) in
-    let recent : (group : Ip) → is_recent at keep (left group) ≡ is_recent at keep (left_at history group) = λ group. is_recent-kept history group (left group) at keep (stands group) onward in
-    ap (some_recent at keep) (sym back) ∙ any-made left at keep groups ∙ (λ i. list_any (λ group. recent group i) groups)
+    let recent : (group : Ip) → is_recent at keep (left group) ≡ is_recent at keep (left_at history group) = λ group. is_recent-kept (left_at history group) (left group) (latest history) at keep (stands group) onward in
+    ap (some_recent at keep) (sym back) ∙ any-map (λ (slot : Ip × Option ℕ). is_recent at keep slot.1) (with_left left) groups ∙ (λ i. list_any (λ group. recent group i) groups)
     ∙ both_ways _ _
     (any_within (λ group. is_recent at keep (left_at history group)) groups (groups_opened history) (λ group is. recent_opened history group at keep (left_at history group) refl is))
     (any_within (λ group. is_recent at keep (left_at history group)) (groups_opened history) groups
-    (λ group is. has-groups sockets (farewells_in slots) group ∙ or_there (has_socket group sockets) (is_some (left group)) (recent_some at keep (left group) (recent group ∙ is))))
+    (λ group is. has-groups sockets (farewells_in slots) group ∙ or_right (has_socket group sockets) (is_some (left group)) (recent_some at keep (left group) (recent group ∙ is))))

@@ -1,10 +1,10 @@
 -- The change records of one call make a report of at most 1,400 octets.
-use Rattle.std.{proofs.{Common.{◌≡◌, ℕ, ◌+◌, ◌*◌, ◌≤◌, Bool, true, false, not, ◌&&◌, ◌||◌, cond, List, [], ◌∷◌, ◌++◌, filter, length, map, Option, Some, None, refl, sym, ap, subst, ◌∙◌, arith}, lemmas.{List.{Sums.{sum_by-append, sum_by-cons, sum_by-le-sum_by}}, Map.Keys.{IsDistinct-from_sorted}}}, specs.List.{count_by, sum_by}}
+use Rattle.std.{proofs.{Common.{◌≡◌, ℕ, ◌+◌, ◌*◌, ◌≤◌, Bool, true, false, not, ◌&&◌, ◌||◌, cond, List, [], ◌∷◌, ◌++◌, filter, length, map, Option, Some, None, refl, sym, ap, subst, ◌∙◌, arith}, lemmas.{Bool.{cond_both, or_left}, List.{Sums.{sum_by-append, sum_by-cons, sum_by-le-sum_by}}, Map.Keys.{IsDistinct-from_sorted}}}, specs.List.{count_by, sum_by}}
 use Rattle.amt_values.{specs.{declared.address.Ip.{Ip, TheVariants.{V4 as Address4}}, Order.{ip_order}, Ascending.{ascending, difference, has}}, proofs.{Orders.{ip_order-exact, ip_order-total}, AscendingLaws.{IsAscending-ascending, has-difference}}}
 use Rattle.source_filter.specs.{Changes.{changes_by, changes_on, record_of_some}, Merging.{merged}, declared.mode.Mode.{Mode, TheVariants.{Include, Exclude}}, declared.record.{Record.{Record}, RecordKind.{RecordKind, TheVariants.{ToIn, ToEx, Allow, Block}}}}
 use Rattle.group_records.specs.{Family.{width}, Reading.{head_length}, Written.{is_of_family, report_length}, declared.family.Family.{Family, TheVariants.{V4, V6}}}
 use Rattle.socket_merge.specs.{Changes.{IsOneCallAfter, change_records, changed_on, changes_between}, History.{AcceptedCall, Change, Close, LeaveAll, Open, Socket, SocketCall, latest, open_sockets, socket_named, sockets_after}, Interface.{filters_on, left_at, on_group, same_group}, Kept.{IsLawful, has_socket}, Refusal.{may_be_due, raw_report_length, raw_sources}}
-use Rattle.socket_merge.proofs.{Amounts.{HasName, HasName-of, has_name, kept-changed, kept-closed, none_passes, unnamed}, ByGroup.{flat_map-filter, group_of, same_group-turned, sum-one}, Changed.{changes-are, unchanged}, Lawful.{AreOthersKept, kept-opened}, RawOctets.{raw_here}, Reports.{merged-few, octets_of_record, record_less, short-said, sum_by-flat_map}, Wanted.{length-filter_le, same_group-itself}}
+use Rattle.socket_merge.proofs.{Amounts.{HasName, HasName-of, has_name, kept-changed, kept-closed, none_passes, unnamed}, ByGroup.{flat_map-filter, group_of, same_group-turned, sum-one}, Changed.{changes-are, unchanged}, Lawful.{AreOthersKept, kept-opened}, RawOctets.{raw_here}, Reports.{merged-few, nothing_of, octets_of_record, record_less, short-said, sum_by-flat_map}, Wanted.{length-filter_le, same_group-itself}}
 
 -- ---- how long the records of one group are
 
@@ -57,13 +57,9 @@ module _ (family : Family) (group : Ip) where
 
 -- ---- a call that changes one group
 
-or_first : (first rest : Bool) → first ≡ true → (first || rest) ≡ true
-or_first true rest is = refl
-or_first false rest is = absurd cc
-
 none-has : (sources : List Ip) → ((source : Ip) → has ip_order sources source ≡ false) → sources ≡ []
 none-has [] none = refl
-none-has (first ∷ more) none = let here = or_first (same_group first first) (has ip_order more first) (same_group-itself first) in let absent = none first in absurd cc
+none-has (first ∷ more) none = let here = or_left (same_group first first) (has ip_order more first) (same_group-itself first) in let absent = none first in absurd cc
 
 both_no : (test : Bool) → (test && not test) ≡ false
 both_no true = refl
@@ -86,10 +82,6 @@ same-sockets before after group same =
 abbrev cost : Family → List Socket → List Socket → Ip → ℕ
 cost family before after group = sum_by (octets_of_record family) (cond (is_of_family family group) (changed_on before after group) [])
 
-cost_by : (family : Family) (of : Bool) (records : List Record) (most : ℕ) → sum_by (octets_of_record family) records ≤ most → sum_by (octets_of_record family) (cond of records []) ≤ most
-cost_by family true records most few = few
-cost_by family false records most few = omega arith
-
 -- the sockets of each group list few sources
 abbrev pub AreFew : List Socket → Type 0
 AreFew sockets = (group : Ip) → length (raw_sources group sockets) ≤ 32
@@ -98,20 +90,12 @@ cost-few : (family : Family) (before after : List Socket) (group : Ip) → AreFe
 cost-few family before after group few short =
     let old = merged (filters_on group before) in
     let new = merged (filters_on group after) in
-    cost_by family (is_of_family family group) (changed_on before after group) 1064
-    (short_by family group old.mode new.mode old.sources new.sources (omega (arith, few group, merged-few group before)) (omega (arith, short group, merged-few group after)))
+    cond_both (is_of_family family group) (changed_on before after group) [] (λ records. sum_by (octets_of_record family) records ≤ 1064)
+    (λ own. short_by family group old.mode new.mode old.sources new.sources (omega (arith, few group, merged-few group before)) (omega (arith, short group, merged-few group after))) (λ other. omega arith)
 
 own_cost : (test : Bool) (cost : ℕ) → (test ≡ false → cost ≡ 0) → cost ≤ cond test cost 0
 own_cost true cost none = omega arith
 own_cost false cost none = omega (arith, none refl)
-
-within_one : (listed : Bool) (cost : ℕ) → cond listed cost 0 ≤ cost
-within_one true cost = omega arith
-within_one false cost = omega arith
-
-none_cost : (family : Family) (of : Bool) (records : List Record) → records ≡ [] → sum_by (octets_of_record family) (cond of records []) ≡ 0
-none_cost family true records none = ap (sum_by (octets_of_record family)) none
-none_cost family false records none = refl
 
 one-group : (family : Family) (before after : List Socket) (group : Ip) → AreOthersKept group before after → AreFew before → AreFew after → report_length family (changes_between family before after) ≤ 1400
 unfolding changes_between
@@ -119,15 +103,16 @@ one-group family before after group kept few short =
     let costs = cost family before after in
     let groups = ascending ip_order (map group_of (before ++ after)) in
     let said = ap (sum_by (octets_of_record family)) (flat_map-filter (changed_on before after) (is_of_family family) groups) in
+    let within_one = cond_both (has ip_order groups group) (costs group) 0 (λ octets. octets ≤ costs group) (λ listed. omega arith) (λ other. omega arith) in
     omega (
       arith,
       said,
       sum_by-flat_map (octets_of_record family) (λ one. cond (is_of_family family one) (changed_on before after one) []) groups,
       sum_by-le-sum_by costs (λ other. cond (same_group group other) (costs other) 0) groups
           (λ other. own_cost (same_group group other) (costs other)
-          (λ apart. none_cost family (is_of_family family other) (changed_on before after other) (same-sockets before after other (kept other (same_group-turned other group ∙ apart))))),
+          (λ apart. ap (sum_by (octets_of_record family)) (nothing_of family other (changed_on before after other) (same-sockets before after other (kept other (same_group-turned other group ∙ apart)))))),
       sum-one costs group groups (IsDistinct-from_sorted ip_order groups (IsAscending-ascending ip_order-total (map group_of (before ++ after)))),
-      within_one (has ip_order groups group) (costs group),
+      within_one,
       cost-few family before after group few short,
     )
 
@@ -179,12 +164,12 @@ short_after family history (Open name group filter) lawful few =
 short_after family history (Change name filter) lawful few =
     let sockets = open_sockets history in
     named family name sockets (sockets_after (Change name filter) sockets) (socket_named name sockets) (lawful.apart name) refl
-    (λ socket is. kept-changed socket sockets (sockets_after (Close name) sockets) (λ one. sockets_after (Change name one) sockets) is filter)
+    (λ socket is. kept-changed name socket sockets is filter)
     (λ none. (unnamed name sockets none).again filter) lawful.limits.sources few
 short_after family history (Close name) lawful few =
     let sockets = open_sockets history in
     named family name sockets (sockets_after (Close name) sockets) (socket_named name sockets) (lawful.apart name) refl
-    (λ socket is. kept-closed socket sockets (sockets_after (Close name) sockets) (λ one. sockets_after (Change name one) sockets) is)
+    (λ socket is. kept-closed name socket sockets is)
     (λ none. (unnamed name sockets none).rest) lawful.limits.sources few
 short_after family history LeaveAll lawful few = all-closed family history (lawful.limits.octets family)
 

@@ -1,5 +1,5 @@
 -- The slots of sockets and farewells, and what calls make of them.
-use Rattle.std.{proofs.{Common.{◌≡◌, ℕ, Bool, true, false, not, ◌||◌, cond, is_some, List, [], ◌∷◌, ◌++◌, map, Option, Some, None, refl, sym, ap, subst, ◌∙◌}, lemmas.{Cmp.{eq_by_cmp_equiv}, Map.{lookup-none, Entries.{lookup_head, lookup_tail, none_past_head}, Keys.{IsDistinct-from_sorted, IsDistinct-tail}, Made.{is_some-lookup}}, List.Elements.{All-cons, All-nil}}}, specs.{BTreeMap.{BTreeMap, IsOrdered, get, get_by, is_at}, List.{All, IsDistinct, cons_option, find, list_any}, Map.{keys_of, values_of, Calls.{RetainsPairs}}, Option.{option_map, unwrap_or}, Ordering.{eq_by_cmp}, declared.cmp.Ordering.{Ordering}}}
+use Rattle.std.{proofs.{Common.{◌≡◌, ℕ, Bool, true, false, not, ◌||◌, cond, is_some, List, [], ◌∷◌, ◌++◌, map, Option, Some, None, refl, sym, ap, subst, ◌∙◌}, lemmas.{Cmp.{eq_by_cmp_equiv}, Map.{lookup-none, Entries.{lookup_head, lookup_tail, none_past_head}, Keys.{IsDistinct-from_sorted, IsDistinct-tail}, Made.{is_some-lookup}}, List.Elements.{All-cons, All-nil}}}, specs.{BTreeMap.{BTreeMap, IsOrdered, get, get_by, is_at}, List.{All, IsDistinct, cons_option, find}, Map.{keys_of, Calls.{RetainsPairs}}, Option.{option_map, unwrap_or}, Ordering.{eq_by_cmp}, declared.cmp.Ordering.{Ordering}}}
 use Rattle.amt_values.{specs.{declared.address.Ip.{Ip}, Order.{ip_order}, Ascending.{IsAscending, ascending, has}}, proofs.{Orders.{ip_order-exact, ip_order-total}, AscendingLaws.{IsAscending-ascending, has-append, has-ascending, same_ascending}}}
 use Rattle.source_filter.specs.Filter.{wants_any}
 use Rattle.socket_merge.specs.{FullReport.{is_empty}, History.{Socket}, Interface.{on_group, same_group}, Kept.{AreMade, HasSlot, farewells_in, has_socket, kept_at, left_after, left_fresh, made, slot_at, slot_fresh, slot_left, slot_of, slots_of, some_wants}, Refusal.{may_be_due}, Sockets.{Farewell, left_in}}
@@ -58,18 +58,18 @@ pub record AreSlots (sockets : List Socket) (slots : List (Ip × Option ℕ)) (l
 pub kept-is : (sockets : List Socket) (slots : List (Ip × Option ℕ)) (left : Ip → Option ℕ) → AreSlots sockets slots left → (group : Ip) → kept_at slots group ≡ left group
 kept-is sockets slots left are group = ap (λ (slot : Option (Option ℕ)). unwrap_or slot None) (are.each group) ∙ slot_kept (has_socket group sockets) (left group)
 
--- so are those that the sockets and farewells give back
-pub AreSlots-back : (sockets : List Socket) (slots : List (Ip × Option ℕ)) → slots_of sockets (farewells_in slots) ≡ slots → AreSlots sockets slots (left_in (farewells_in slots))
-AreSlots-back sockets slots back =
-    let farewells = farewells_in slots in
-    let left = left_in farewells in
+-- so are those that sockets and farewells give
+AreSlots-of : (sockets : List Socket) (farewells : List Farewell) → AreSlots sockets (slots_of sockets farewells) (left_in farewells)
+AreSlots-of sockets farewells =
     let groups = groups_in sockets farewells in
     record {
-      ordered = subst (λ (all : List (Ip × Option ℕ)). IsAscending ip_order (keys_of all)) back
-          (subst (IsAscending ip_order) (sym (keys-made left groups)) (IsAscending-ascending ip_order-total (map group_of sockets ++ map farewell_group farewells)));
-      each = λ group. ap (λ (all : List (Ip × Option ℕ)). slot_at all group) (sym back) ∙ slot_at-made left groups group
-          ∙ ap (λ (some : Bool). cond some (Some (left group)) None) (has-groups sockets farewells group);
+      ordered = subst (IsAscending ip_order) (sym (keys-made (left_in farewells) groups)) (IsAscending-ascending ip_order-total (map group_of sockets ++ map farewell_group farewells));
+      each = λ group. slot_at-made (left_in farewells) groups group ∙ ap (λ (some : Bool). cond some (Some (left_in farewells group)) None) (has-groups sockets farewells group);
     }
+
+-- and so those that are given back
+pub AreSlots-back : (sockets : List Socket) (slots : List (Ip × Option ℕ)) → slots_of sockets (farewells_in slots) ≡ slots → AreSlots sockets slots (left_in (farewells_in slots))
+AreSlots-back sockets slots back = subst (λ (all : List (Ip × Option ℕ)). AreSlots sockets all (left_in (farewells_in slots))) back (AreSlots-of sockets (farewells_in slots))
 
 none_later : (slot : Ip × Option ℕ) (more : List (Ip × Option ℕ)) (group : Ip) → IsDistinct (eq_by_cmp ip_order) (keys_of (slot ∷ more)) → same_group group slot.0 ≡ true → slot_at more group ≡ None
 none_later slot more group distinct same = lookup-none (same_group group) more (none_past_head (eq_by_cmp_equiv ip_order-total) group slot more distinct same)
@@ -116,17 +116,13 @@ same_slots (one ∷ first) (other ∷ second) keys distinct again same =
 -- and nothing is kept beside the sockets and farewells
 pub back-of : (sockets : List Socket) (slots : List (Ip × Option ℕ)) (left : Ip → Option ℕ) → AreSlots sockets slots left → slots_of sockets (farewells_in slots) ≡ slots
 back-of sockets slots left are =
-    let farewells = farewells_in slots in
-    let groups = groups_in sockets farewells in
-    let all = slots_of sockets farewells in
-    let ordered : IsAscending ip_order (keys_of all) = subst (IsAscending ip_order) (sym (keys-made (left_in farewells) groups)) (IsAscending-ascending ip_order-total (map group_of sockets ++ map farewell_group farewells)) in
-    let same : (group : Ip) → slot_at all group ≡ slot_at slots group = λ group.
-    slot_at-made (left_in farewells) groups group ∙ ap (λ (some : Bool). cond some (Some (left_in farewells group)) None) (has-groups sockets farewells group)
-    ∙ ap (slot_of (has_socket group sockets)) (left_in-is sockets slots left are group) ∙ sym (are.each group) in
+    let of = AreSlots-of sockets (farewells_in slots) in
+    let all = slots_of sockets (farewells_in slots) in
+    let same : (group : Ip) → slot_at all group ≡ slot_at slots group = λ group. of.each group ∙ ap (slot_of (has_socket group sockets)) (left_in-is sockets slots left are group) ∙ sym (are.each group) in
     same_slots all slots
-    (same_ascending ip_order-total ip_order-exact (keys_of all) (keys_of slots) ordered are.ordered
-    (λ group. sym (is_some-lookup (same_group group) all) ∙ ap is_some (same group) ∙ is_some-lookup (same_group group) slots)) (IsDistinct-from_sorted ip_order (keys_of all) ordered)
-    (IsDistinct-from_sorted ip_order (keys_of slots) are.ordered) same
+    (same_ascending ip_order-total ip_order-exact (keys_of all) (keys_of slots) of.ordered are.ordered
+    (λ group. sym (is_some-lookup (same_group group) all) ∙ ap is_some (same group) ∙ is_some-lookup (same_group group) slots))
+    (IsDistinct-from_sorted ip_order (keys_of all) of.ordered) (IsDistinct-from_sorted ip_order (keys_of slots) are.ordered) same
 
 each_by : (P : Farewell → Type 0) (left : Option ℕ) (group : Ip) (rest : List Farewell) → ((moment : ℕ) → left ≡ Some moment → P (record { group = group; left = moment })) → All P rest
     → All P (cons_option (option_map (λ moment. record { group = group; left = moment }) left) rest)
@@ -153,10 +149,6 @@ same_slot : (test : Bool) (group other : Ip) (some : Ip → Bool) (before : Bool
 same_slot true group other some before left old same kept = ap (λ (at : Ip). slot_of (some at) left) (same refl)
 same_slot false group other some before left old same kept = ap (λ (has : Bool). slot_of has old) (sym (kept refl))
 
--- the list has a socket
-abbrev some_in : List Socket → Bool
-some_in sockets = not (is_empty sockets)
-
 -- a call that changes the sockets of one group
 pub AreSlots-one : (sockets after : List Socket) (slots new : List (Ip × Option ℕ)) (left : Ip → Option ℕ) (group : Ip) (now : Option ℕ) → AreSlots sockets slots left → IsAscending ip_order (keys_of new)
     → HasSlot group (slot_of (has_socket group after) now) slots new → ((other : Ip) → same_group other group ≡ false → on_group other after ≡ on_group other sockets)
@@ -165,7 +157,7 @@ AreSlots-one sockets after slots new left group now are ordered is others = reco
   ordered = ordered;
   each = λ other. is other ∙ ap (λ (slot : Option (Option ℕ)). cond (same_group group other) (slot_of (has_socket group after) now) slot) (are.each other)
       ∙ same_slot (same_group group other) group other (λ at. has_socket at after) (has_socket other sockets) now (left other) (same_group-exact group other)
-      (λ apart. ap (λ on. some_in on) (others other (same_group-turned other group ∙ apart)));
+      (λ apart. ap (λ (on : List Socket). not (is_empty on)) (others other (same_group-turned other group ∙ apart)));
 }
 
 left_by : (some wanted : Bool) (moment : ℕ) (left : Option ℕ) → (wanted ≡ true → some ≡ true)
@@ -253,11 +245,6 @@ module _ {F : Type 0} (T : F → Ip → Option ℕ → Bool → Option ℕ → F
       ∙ (λ i. cond (said.0 i) (cond (same_group group e.0) (Some (said.1 i)) (slot_at h.3 group)) (slot_at h.3 group))
       ∙ retained_by (same_group group e.0) to stay group e.0 e.1 (slot_at es group) (slot_at h.3 group) (same_group-exact group e.0)
       (none_later e es group distinct) rest
-
--- a test of the values is a test of the slots
-pub list_any-values : (test : Option ℕ → Bool) (slots : List (Ip × Option ℕ)) → list_any test (values_of slots) ≡ list_any (λ slot. test slot.1) slots
-list_any-values test [] = refl
-list_any-values test (slot ∷ more) = ap (λ (b : Bool). test slot.1 || b) (list_any-values test more)
 
 -- the slot of a group after a call, by whether it stays
 pub slot-is : (stays some wanted seen before : Bool) (moment : ℕ) (now left kept : Option ℕ) → stays ≡ (is_some now || some) → now ≡ left_after seen before moment left → seen ≡ wanted → left ≡ kept

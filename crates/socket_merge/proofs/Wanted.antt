@@ -1,15 +1,34 @@
 -- What the filters of a group want merged, by what each of them wants.
-use Rattle.std.proofs.{Common.{◌≡◌, ℕ, ◌+◌, ◌≤◌, Bool, true, false, not, ◌||◌, List, [], ◌∷◌, ◌++◌, length, filter, refl, ap, ◌∙◌, arith}, Math.Bool.{or-true}, lemmas.{Cmp.{tied_itself}, List.{length-append}}}
-use Rattle.std.{proofs.lemmas.{List.{Elements.{All-append, All-cons, All-filter, All-head, All-nil, All-tail}, Filters.{length-filter_both}, Sums.{sum_by-cons}}, Map.Views.{tells_apart}}, specs.{List.{All, list_any, sum_by}, Ordering.{is_eq, match_ordering}, declared.cmp.Ordering.{Ordering, TheVariants.{Less, Equal, Greater}}}}
-use Rattle.amt_values.{specs.{declared.address.Ip.{Ip}, Order.{ip_order}, Ascending.{ascending, has, intersection, placed}}, proofs.{Orders.{ip_order-exact, ip_order-total}, AscendingLaws.{length-ascending}}}
+use Rattle.std.proofs.{Common.{◌≡◌, ℕ, ◌+◌, ◌≤◌, Bool, true, false, not, ◌&&◌, ◌||◌, cond, List, [], ◌∷◌, ◌++◌, length, map, filter, refl, sym, ap, ◌∙◌, arith}, Math.Bool.{or-true}, lemmas.{Bool.{or_left}, Cmp.{eq_by_cmp_equiv, tied_itself}, List.{length-append}}}
+use Rattle.std.{proofs.lemmas.{List.{Elements.{All-append, All-cons, All-contains, All-filter, All-head, All-nil, All-tail}, Filters.{length-filter_both}, Sums.{sum_by-cons}}, Map.Views.{All-from_any, Contains-from_any, tells_apart}}, specs.{List.{All, list_any, sum_by}, Ordering.{is_eq}}}
+use Rattle.amt_values.{specs.{declared.address.Ip.{Ip}, Order.{ip_order}, Ascending.{ascending, has, intersection}}, proofs.{Orders.{ip_order-exact, ip_order-total}, AscendingLaws.{has-ascending, length-ascending}}}
 use Rattle.source_filter.specs.{Filter.{FilterValue, wants_any, wants_any_by}, Merging.{all_sources, common_sources, exclude_list, exclude_lists, include_list, include_lists, intersection_of, merged, merged_by, union_of}, declared.mode.Mode.{Mode, TheVariants.{Include, Exclude}}}
-use Rattle.socket_merge.specs.Interface.{same_group}
+use Rattle.socket_merge.specs.{History.{Socket}, Interface.{filters_on, on_group, same_group}}
 
 pub same_group-exact : (one other : Ip) → same_group one other ≡ true → one ≡ other
 same_group-exact one other same = tells_apart ip_order-exact one other same
 
 pub same_group-itself : (group : Ip) → same_group group group ≡ true
 same_group-itself group = ap is_eq (tied_itself ip_order-total group)
+
+-- a test of what is made of items is one of the items
+pub any-map : {X Y : Type 0} (test : Y → Bool) (f : X → Y) (xs : List X) → list_any test (map f xs) ≡ list_any (λ x. test (f x)) xs
+any-map test f [] = refl
+any-map test f (x ∷ xs) = ap (λ (rest : Bool). test (f x) || rest) (any-map test f xs)
+
+any_by : {X : Type 0} (b : Bool) (test : X → Bool) (x : X) (xs : List X) → list_any test (cond b (x ∷ xs) xs) ≡ ((b && test x) || list_any test xs)
+any_by true test x xs = refl
+any_by false test x xs = refl
+
+any-filter : {X : Type 0} (passes test : X → Bool) (xs : List X) → list_any test (filter passes xs) ≡ list_any (λ x. passes x && test x) xs
+any-filter passes test [] = refl
+any-filter passes test (x ∷ xs) = any_by (passes x) test x (filter passes xs) ∙ ap (λ (rest : Bool). (passes x && test x) || rest) (any-filter passes test xs)
+
+-- a test of the filters of a group is one of all sockets
+pub any-on : (group : Ip) (test : FilterValue → Bool) (sockets : List Socket)
+    → list_any (λ (one : Socket). same_group group one.group && test one.filter) sockets ≡ list_any test (filters_on group sockets)
+any-on group test sockets =
+    sym (any-map test (λ (one : Socket). one.filter) (on_group group sockets) ∙ any-filter (λ one. same_group group one.group) (λ one. test one.filter) sockets)
 
 -- the list has an item
 abbrev pub some_item : {X : Type 0} → List X → Bool
@@ -20,18 +39,14 @@ wants_any-include : (sources : List Ip) → wants_any_by Include sources ≡ som
 wants_any-include [] = refl
 wants_any-include (source ∷ more) = refl
 
-some_item-placed_by : (order : Ordering) (source next : Ip) (more placed : List Ip) → some_item (match_ordering order (source ∷ next ∷ more) (next ∷ more) (next ∷ placed)) ≡ true
-some_item-placed_by Less source next more placed = refl
-some_item-placed_by Equal source next more placed = refl
-some_item-placed_by Greater source next more placed = refl
-
-some_item-placed : (source : Ip) (more : List Ip) → some_item (placed ip_order source more) ≡ true
-some_item-placed source [] = refl
-some_item-placed source (next ∷ more) = some_item-placed_by (ip_order source next) source next more (placed ip_order source more)
+some_item-has : (sources : List Ip) (source : Ip) → has ip_order sources source ≡ true → some_item sources ≡ true
+some_item-has [] source listed = listed
+some_item-has (first ∷ more) source listed = refl
 
 some_item-ascending : (sources : List Ip) → some_item (ascending ip_order sources) ≡ some_item sources
 some_item-ascending [] = refl
-some_item-ascending (source ∷ more) = some_item-placed source (ascending ip_order more)
+some_item-ascending (source ∷ more) =
+    some_item-has (ascending ip_order (source ∷ more)) source (has-ascending ip_order-total (source ∷ more) source ∙ or_left (same_group source source) (has ip_order more source) (same_group-itself source))
 
 wants_any-merged_by : (exclude include : List (List Ip))
     → wants_any (merged_by (intersection_of exclude) (union_of include)) ≡ (some_item exclude || some_item (all_sources include))
@@ -93,20 +108,13 @@ pub length-merged : (filters : List FilterValue) → length (merged filters).sou
 length-merged filters = omega (arith, length-merged_by (exclude_lists filters) (include_lists filters), length-lists filters)
 
 module _ (P : Ip → Type 0) where
-  All-placed_by : (order : Ordering) (source next : Ip) (more placed : List Ip) → P source → All P (next ∷ more) → All P placed
-      → All P (match_ordering order (source ∷ next ∷ more) (next ∷ more) (next ∷ placed))
-  All-placed_by Less source next more placed first rest all = All-cons P source (next ∷ more) first rest
-  All-placed_by Equal source next more placed first rest all = rest
-  All-placed_by Greater source next more placed first rest all = All-cons P next placed (All-head P next more rest) all
-
-  All-placed : (source : Ip) (more : List Ip) → P source → All P more → All P (placed ip_order source more)
-  All-placed source [] first rest = All-cons P source [] first rest
-  All-placed source (next ∷ more) first rest =
-      All-placed_by (ip_order source next) source next more (placed ip_order source more) first rest (All-placed source more first (All-tail P next more rest))
+  -- what holds of each item holds of one that the list has
+  pub All-has : (sources : List Ip) (source : Ip) → All P sources → has ip_order sources source ≡ true → P source
+  All-has sources source all some = All-contains P sources source all (Contains-from_any same_group-exact source sources some)
 
   pub All-ascending : (sources : List Ip) → All P sources → All P (ascending ip_order sources)
-  All-ascending [] all = all
-  All-ascending (source ∷ more) all = All-placed source (ascending ip_order more) (All-head P source more all) (All-ascending more (All-tail P source more all))
+  All-ascending sources all =
+      All-from_any (eq_by_cmp_equiv ip_order-total) P (ascending ip_order sources) (λ source some. All-has sources source all (sym (has-ascending ip_order-total sources source) ∙ some))
 
   All-common_sources : (first : List Ip) (more : List (List Ip)) → All P first → All P (common_sources first more)
   All-common_sources first [] all = all

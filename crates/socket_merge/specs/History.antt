@@ -5,6 +5,8 @@
 use Rattle.std.specs.{Prelude.{ℕ, max, nat_eq, not, Bool, List, [], ◌∷◌, ◌++◌, map, Option, if◌then◌else◌}, Cmp.Lexicographic.{pointwise}, List.{filter, find}}
 use Rattle.amt_values.specs.declared.address.Ip.{Ip}
 use Rattle.source_filter.specs.Filter.{FilterValue}
+-- an open socket (RFC 3376, section 3.1): its name, its group and its filter
+pub use Rattle.socket_merge.specs.declared.stored.Socket.{Socket}
 
 -- a call; a name is a list of octets
 pub data SocketCall : Type 0 where
@@ -21,12 +23,6 @@ pub data SocketCall : Type 0 where
 pub record AcceptedCall : Type 0 where
   pub moment : ℕ
   pub call : SocketCall
-
--- an open socket (RFC 3376, section 3.1)
-pub record Socket : Type 0 where
-  pub name : List ℕ
-  pub group : Ip
-  pub filter : FilterValue
 
 -- the moment of the newest call, or 0
 abbrev pub latest : List AcceptedCall → ℕ

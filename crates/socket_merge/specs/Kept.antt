@@ -1,14 +1,10 @@
 -- How sockets are kept: by name, with a slot for the farewell of each group. No public contract says these words.
 use Rattle.std.specs.Prelude.{◌≡◌, ℕ, ◌+◌, ◌*◌, ◌≤◌, not, ◌&&◌, ◌||◌, Bool, true, false, is_some, List, [], ◌∷◌, ◌++◌, length, map, All, sum_by, count_by, Option, Some, None, if◌then◌else◌}
-use Rattle.std.specs.{Global.{Vec}, List.{filter, filter_map, list_any}, Map.{lookup}, Option.{option_map, unwrap_or}}
+use Rattle.std.specs.{List.{filter, filter_map, list_any}, Map.{lookup}, Option.{option_map, unwrap_or}}
 use Rattle.amt_values.specs.{declared.address.Ip.{Ip}, Group.{is_forwardable}, Order.{ip_order}, Ascending.{ascending}}
 use Rattle.source_filter.specs.{Filter.{wants_any}, Merging.{merged}, declared.record.Record.{Record}}
 use Rattle.group_records.specs.{Family.{width}, Reading.{head_length}, Written.{is_of_family}, declared.family.Family.{Family}}
-use Rattle.socket_merge.specs.{FullReport.{farewell, is_empty, is_recent, states}, History.{AcceptedCall, Socket, groups_opened, open_sockets, same_name}, Interface.{filters_on, on_group, same_group}, Refusal.{IsWithinLimits, may_be_due}, Sockets.{AreOfGroup, Farewell, SocketsHold, left_in}, declared.stored.StoredSocket.{StoredSocket}}
-
--- the socket that an entry stands for
-abbrev pub socket_of : Vec ℕ × StoredSocket → Socket
-socket_of entry = record { name = entry.0.items; group = entry.1.group; filter = entry.1.filter }
+use Rattle.socket_merge.specs.{FullReport.{farewell, is_empty, is_recent, states}, History.{AcceptedCall, Socket, groups_opened, open_sockets, same_name}, Interface.{filters_on, on_group, same_group}, Refusal.{IsWithinLimits, may_be_due}, Sockets.{AreOfGroup, Farewell, SocketsHold, left_in}}
 
 -- some socket is of the group
 abbrev pub has_socket : Ip → List Socket → Bool

@@ -23,15 +23,15 @@ left_in farewells group = option_map (λ one. one.left) (find (λ one. same_grou
 
 -- A farewell that is kept is when the group was left; and where that was not too long before the
 -- newest call, it is kept.
-pub record IsKept (history : List AcceptedCall) (group : Ip) (kept : Option ℕ) : Type 0 where
-  pub of_history : (left : ℕ) → kept ≡ Some left → left_at history group ≡ Some left
-  pub there : (left : ℕ) → left_at history group ≡ Some left → latest history ≤ left + longest_farewell → kept ≡ Some left
+pub record IsKept (left : Option ℕ) (newest : ℕ) (kept : Option ℕ) : Type 0 where
+  pub of_history : (moment : ℕ) → kept ≡ Some moment → left ≡ Some moment
+  pub there : (moment : ℕ) → left ≡ Some moment → newest ≤ moment + longest_farewell → kept ≡ Some moment
 
 -- the sockets stand for the history: of each group, what is kept of its farewell, and each farewell
 pub record SocketsHold (value : SocketsValue) (history : List AcceptedCall) : Type 0 where
   pub moment : value.moment ≡ latest history
   pub sockets : value.sockets ≡ open_sockets history
-  pub farewells : (group : Ip) → IsKept history group (left_in value.farewells group)
+  pub farewells : (group : Ip) → IsKept (left_at history group) (latest history) (left_in value.farewells group)
   pub each : All (λ one. left_at history one.group ≡ Some one.left) value.farewells
 
 -- of every history that the sockets stand for

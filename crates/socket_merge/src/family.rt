@@ -2,7 +2,7 @@
 
 ghost use Rattle.std.specs.Prelude.{◌≡◌};
 ghost use Rattle.group_records.specs.Written.{is_of_family};
-ghost use Rattle.socket_merge.specs.Refusal.{family_of};
+ghost use Rattle.socket_merge.specs.{FullReport.{family_by}, Refusal.{family_of}};
 
 use amt_values::Ip;
 use group_records::Family;
@@ -14,6 +14,13 @@ pub fn family_of(group: &Ip) -> Family
         Ip::V4(_) => Family::V4,
         Ip::V6(_) => Family::V6,
     }
+}
+
+/// The family of IPv6 groups, or of IPv4 groups.
+pub fn family_by(v6: bool) -> Family
+    ensures { result ≡ family_by v6 }
+{
+    if v6 { Family::V6 } else { Family::V4 }
 }
 
 pub fn is_of_family(family: Family, group: &Ip) -> bool

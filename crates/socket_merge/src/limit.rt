@@ -35,38 +35,35 @@ pub fn limit_passed(
         (places_besides named.now (family_of group.now) moment group.now farewells.now + 1)
         (listed_in (family_of group.now) named.now - before + after))) }
 {
-    let sources = named.listed_on(group) - before + after;
+    let (on, all) = named.listed(group);
+    let sources = on - before + after;
     if sources > SOURCE_LIMIT {
         return Some(SocketFault::SourcesFull(sources as u32));
     }
-    let octets = octets_after(named, farewells, group, before, after, moment);
+    let octets = octets_after(named, farewells, group, all - before + after, moment);
     if octets > REPORT_LIMIT {
         return Some(SocketFault::ReportFull(octets as u32));
     }
     None
 }
 
-// The octets of the raw report of the group's family then.
+// The octets of the raw report of the group's family, where it has a place and its family lists so many sources.
 fn octets_after(
     named: &NamedSockets,
     farewells: &Farewells,
     group: &Ip,
-    before: usize,
-    after: usize,
+    sources: usize,
     moment: Moment,
 ) -> usize
-    requires total { listed_in (family_of group.now) named.now ≤ REPORT_LIMIT }
     requires places { places_besides named.now (family_of group.now) moment group.now farewells.now ≤ REPORT_LIMIT }
-    requires within { before ≤ listed_in (family_of group.now) named.now }
-    requires after { after ≤ ITEM_LIMIT }
+    requires sources { sources ≤ 16778616 }
     ensures value { result ≡ raw_octets (family_of group.now)
-        (places_besides named.now (family_of group.now) moment group.now farewells.now + 1)
-        (listed_in (family_of group.now) named.now - before + after) }
+        (places_besides named.now (family_of group.now) moment group.now farewells.now + 1) sources }
     ensures small { result ≤ 300000000 }
 {
     let family = family_of(group);
     let places = farewells.places_besides(named, family, moment, group) + 1;
-    raw_octets(family, places, named.listed_in(family) - before + after)
+    raw_octets(family, places, sources)
 }
 
 // The octets of a report with so many records, in which nothing is merged, that list so many sources.

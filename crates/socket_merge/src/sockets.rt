@@ -9,13 +9,14 @@ ghost use Rattle.socket_merge.specs.{Changes.{IsOneCallAfter, changes_between}, 
 ghost use Rattle.socket_merge.specs.{Kept.{HasSlot, kept_at, left_after, some_wants}, Refusal.{FillsNoMore, IsWithinLimits, is_open, raw_report_length, refusal_of}, Sockets.{AnswersRefusal, AreOfGroup, AreOfSocket, ForHistory, HasNoOldFarewell, KeepsFarewells, SocketsHold}};
 
 use crate::changes::changes_between;
+use crate::family::family_by;
 use crate::farewells::Farewells;
 use crate::fault::{NoSocket, SocketFault};
 use crate::limit::limit_passed;
 use crate::named::NamedSockets;
 use crate::stored::left_after;
 use amt_values::{Ip, Moment};
-use group_records::{Family, ITEM_LIMIT, REPORT_LIMIT};
+use group_records::{ITEM_LIMIT, REPORT_LIMIT};
 use source_filter::{Filter, Records, copy_filter, merge};
 use std::alloc::{AllocError, Global};
 use std::marker::Model;
@@ -83,7 +84,7 @@ impl Sockets {
         ensures same { OnErr result (self.new ≡ self.old) }
     {
         let moment = self.moment.later(at);
-        if self.named.find(name).is_some() {
+        if let Some(_) = self.named.find(name) {
             return Err(SocketFault::Taken);
         }
         let sources = filter.sources().len();
@@ -131,9 +132,11 @@ impl Sockets {
         ensures same { OnErr result (self.new ≡ self.old) }
     {
         let moment = self.moment.later(at);
-        let Some((group, before)) = self.named.find(name) else {
+        let Some(socket) = self.named.find(name) else {
             return Err(SocketFault::NoSocket);
         };
+        let group = socket.group;
+        let before = socket.filter.sources().len();
         let after = filter.sources().len();
         if let Some(fault) = limit_passed(
             &self.named,
@@ -173,9 +176,10 @@ impl Sockets {
 
         ensures same { OnErr result (self.new ≡ self.old) }
     {
-        let Some((group, _)) = self.named.find(name) else {
+        let Some(socket) = self.named.find(name) else {
             return Err(NoSocket);
         };
+        let group = socket.group;
         self.moment = self.moment.later(at);
         let wanted = self.named.wants(&group);
         self.named.remove(name);
@@ -240,7 +244,7 @@ impl Sockets {
         ensures raw_fits { ForHistory self.now (λ history.
             raw_report_length (family_by v6) history ≤ REPORT_LIMIT) }
     {
-        let family = if v6 { Family::V6 } else { Family::V4 };
+        let family = family_by(v6);
         let moment = self.moment.later(at);
         self.farewells
             .report(alloc, &self.named, family, moment, keep_ms)
@@ -261,7 +265,7 @@ impl Sockets {
         ensures forwarded { IfOk result (All (λ one. is_forwardable one.group ≡ true)) }
         ensures family { IfOk result (All (IsOfFamily (family_by v6))) }
     {
-        let family = if v6 { Family::V6 } else { Family::V4 };
+        let family = family_by(v6);
         changes_between(alloc, &before.named, &self.named, family)
     }
 
@@ -295,7 +299,6 @@ fn insert_both(
     filter: &Filter,
     moment: Moment,
 ) -> Result<(), AllocError>
-    requires absent { socket_named name.now named.old ≡ None }
     ensures named { OnOk result (named.new ≡ named.old
         ++ record { name = name.now; group = group.now; filter = filter.now } ∷ []) }
     ensures slot { OnOk result (HasSlot group.now (Some (left_after (some_wants group.now named.new)

@@ -4,12 +4,13 @@ ghost use Rattle.std.specs.Prelude.{◌≡◌};
 ghost use Rattle.source_filter.specs.Filter.{wants_any};
 ghost use Rattle.socket_merge.specs.{FullReport.{is_recent}, Refusal.{may_be_due}, Kept.{left_after, left_fresh}};
 
-use amt_values::{Ip, Moment};
+use amt_values::{Bytes, Ip, Moment};
 use source_filter::{Filter, Mode};
 
-/// The group and the filter of a socket.
+/// An open socket (RFC 3376, section 3.1); its name is a list of octets.
 #[derive(Debug, Drop)]
-pub struct StoredSocket {
+pub struct Socket {
+    pub name: Bytes,
     pub group: Ip,
     pub filter: Filter,
 }

@@ -2,14 +2,8 @@ use Rattle.std.{proofs.{Common.{◌≡◌, ◌≤◌, true, List, sym, ap, subst
 use Rattle.amt_values.specs.Group.{is_forwardable}
 use Rattle.source_filter.specs.declared.record.Record.{Record}
 use Rattle.group_records.specs.{Written.{IsOfFamily, report_length}, declared.family.Family.{Family}}
-use Rattle.socket_merge.{specs.{Changes.{IsOneCallAfter, changes_between}, FullReport.{family_by}, History.{Socket, open_sockets}, Sockets.{SocketsValue}}, proofs.{Changed.{changes-forwarded, changes-of_family}, ShortChanges.{short-changes}, sockets.Sockets.changes_since.Goals.{After-changes_between, then-v6, else-v6}}}
+use Rattle.socket_merge.{specs.{Changes.{IsOneCallAfter, changes_between}, FullReport.{family_by}, History.{Socket, open_sockets}, Sockets.{SocketsValue}}, proofs.{Changed.{changes-forwarded, changes-of_family}, ShortChanges.{short-changes}, sockets.Sockets.changes_since.Goals.{After-changes_between}}}
 use Rattle.socket_merge.proofs.sockets.Sockets.changes_since.Goals as goal
-
-family : (c : After-changes_between) → c.if-v6.family ≡ family_by c.args.v6
-family c = elim c.if-v6.branch [
-  | then-v6 w ↦ w.family-is ∙ sym (ap family_by w.if-v6.true)
-  | else-v6 w ↦ w.family-is ∙ sym (ap family_by w.if-v6.false)
-]
 
 -- the records of the answer
 abbrev pub Says : After-changes_between → List Record → Type 0
@@ -17,7 +11,7 @@ Says c records = records ≡ changes_between (family_by c.args.v6) c.before-2.in
 
 says : (c : After-changes_between) → IfOk c.changes_between.result (Says c)
 says c =
-    subst (λ (of : Family). IfOk c.changes_between.result (λ records. records ≡ changes_between of c.before-2.inside.named c.self.inside.named)) (family c) c.changes_between.ensures
+    subst (λ (of : Family). IfOk c.changes_between.result (λ records. records ≡ changes_between of c.before-2.inside.named c.self.inside.named)) c.family_by-family.ensures c.changes_between.ensures
 
 pub returns-clause-records : goal.returns-clause-records
 returns-clause-records c =

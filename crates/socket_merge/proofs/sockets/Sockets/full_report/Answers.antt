@@ -3,14 +3,8 @@ use Rattle.amt_values.specs.{Group.{is_forwardable}}
 use Rattle.source_filter.specs.declared.record.Record.{Record}
 use Rattle.group_records.specs.{Written.{IsOfFamily, report_length}, declared.family.Family.{Family}}
 use Rattle.socket_merge.specs.{FullReport.{family_by, full_report_of}, History.{AcceptedCall, Socket, moment_read}, Kept.{farewells_in, said_of, slots_of}, Refusal.{raw_report_length}, Sockets.{SocketsHold, SocketsValue}}
-use Rattle.socket_merge.proofs.{Calls.{value_of, within_limits}, Reports.{full-forwarded, full-of_family, full-within_raw, full_report-is}, sockets.Sockets.full_report.Goals.{After-report, then-v6, else-v6}}
+use Rattle.socket_merge.proofs.{Calls.{value_of, within_limits}, Reports.{full-forwarded, full-of_family, full-within_raw, full_report-is}, sockets.Sockets.full_report.Goals.{After-report}}
 use Rattle.socket_merge.proofs.sockets.Sockets.full_report.Goals as goal
-
-family : (c : After-report) → c.if-v6.family ≡ family_by c.args.v6
-family c = elim c.if-v6.branch [
-  | then-v6 w ↦ w.family-is ∙ sym (ap family_by w.if-v6.true)
-  | else-v6 w ↦ w.family-is ∙ sym (ap family_by w.if-v6.false)
-]
 
 -- the records of the answer are the full report
 says : (c : After-report) (history : List AcceptedCall) → SocketsHold (value_of c.self.inside.moment c.self.inside.named c.self.inside.farewells) history
@@ -18,10 +12,10 @@ says : (c : After-report) (history : List AcceptedCall) → SocketsHold (value_o
 says c history holds =
     let read : c.later-moment.result ≡ moment_read c.args.at.now history = c.later-moment.ensures ∙ ap (λ (one : ℕ). max one c.args.at.now) holds.moment in
     let back = subst (λ (sockets : List Socket). slots_of sockets (farewells_in c.self.inside.farewells) ≡ c.self.inside.farewells) holds.sockets c.self.invariant.back in
-    IfOk-weaker c.report.result (λ records. records ≡ flat_map (said_of c.if-v6.family c.self.inside.named c.later-moment.result c.args.keep_ms) c.self.inside.farewells)
+    IfOk-weaker c.report.result (λ records. records ≡ flat_map (said_of c.family_by-family.result c.self.inside.named c.later-moment.result c.args.keep_ms) c.self.inside.farewells)
     (λ records. records ≡ full_report_of (family_by c.args.v6) history (moment_read c.args.at.now history) c.args.keep_ms)
     (λ records is. is
-    ∙ ap (λ (of : Family). flat_map (said_of of c.self.inside.named c.later-moment.result c.args.keep_ms) c.self.inside.farewells) (family c)
+    ∙ ap (λ (of : Family). flat_map (said_of of c.self.inside.named c.later-moment.result c.args.keep_ms) c.self.inside.farewells) c.family_by-family.ensures
     ∙ ap (λ (sockets : List Socket). flat_map (said_of (family_by c.args.v6) sockets c.later-moment.result c.args.keep_ms) c.self.inside.farewells) holds.sockets
     ∙ full_report-is (family_by c.args.v6) history c.self.inside.farewells c.later-moment.result c.args.keep_ms back holds.farewells (omega (arith, read))
     ∙ ap (λ (at : ℕ). full_report_of (family_by c.args.v6) history at c.args.keep_ms) read)
