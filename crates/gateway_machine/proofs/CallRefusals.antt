@@ -1,7 +1,6 @@
--- When a socket isn't closed.
+-- When a socket is closed, and when not.
 use Rattle.std.proofs.Common.{◌≡◌, ℕ, Bool, true, false, List, Some, None, refl}
-use Rattle.socket_merge.specs.{History.{AcceptedCall, Close, LeaveAll}, Refusal.{is_open, refusal_of}}
-use Rattle.gateway_machine.specs.{Refusals.{refusal_by}, declared.outcome.SocketRefusal.TheVariants.{NoSocket}}
+use Rattle.socket_merge.specs.{History.{AcceptedCall, Close, LeaveAll}, Refusal.{is_open, refusal_of}, declared.fault.SocketFault.TheVariants.{NoSocket}}
 
 true_unless : (test : Bool) → (test ≡ false → false ≡ true) → test ≡ true
 true_unless true holds = refl
@@ -11,7 +10,7 @@ pub close-accepted : (at : ℕ) (name : List ℕ) (history : List AcceptedCall) 
 unfolding refusal_of
 close-accepted at name history known = rw (true_unless (is_open name history) known) refl
 
-pub close-refused : (at : ℕ) (name : List ℕ) (history : List AcceptedCall) → is_open name history ≡ false → refusal_by (refusal_of at (Close name) history) ≡ Some NoSocket
+pub close-refused : (at : ℕ) (name : List ℕ) (history : List AcceptedCall) → is_open name history ≡ false → refusal_of at (Close name) history ≡ Some NoSocket
 unfolding refusal_of
 close-refused at name history unknown = rw unknown refl
 

@@ -1,10 +1,10 @@
 -- What holds of every run.
 use Rattle.std.proofs.{Common.{◌≡◌, ℕ, List, [], ◌∷◌, ◌++◌, All, Option, Some, None, Ok, refl, sym, ap, subst, ◌∙◌, append-nil, append_assoc}, lemmas.List.Elements.{All-weaker, filter_map-append}}
-use Rattle.amt_values.specs.declared.{mac.Mac48.{Mac48}, peer.Peer.{Peer}}
+use Rattle.amt_values.specs.declared.mac.Mac48.{Mac48}
 use Rattle.amt_messages.{specs.{declared.message.Message.TheVariants.{Multicast, Query}}, proofs.Answered.{Spells-read}}
 use Rattle.inner_datagrams.proofs.Heads.{answer_found}
 use Rattle.gateway_machine.specs.declared.{event.GatewayEvent.{GatewayEvent}, exchange.{LastQuery.{LastQuery}}, settings.GatewaySettings.{GatewaySettings}}
-use Rattle.gateway_machine.specs.{Laws.{HasAcceptedQuery, HasQuery, HasRelay, IsDirected, IsWantedPacket, last_of, last_request, nonce_asked}, Runs.{Run, answer_after, run_of}, Sends.{Sending}}
+use Rattle.gateway_machine.specs.{Laws.{HasAcceptedQuery, IsDirected, IsWantedPacket, last_of, last_request, nonce_asked}, Runs.{Run, answer_after, run_of}, Sends.{Sending}}
 use Rattle.gateway_machine.proofs.{Lawful.{IsBy, IsFit, IsLawful, IsSound, IsSoundAnswer, event-lawful, nonces_asked}, Runs.{run_of-append, run_of-nil}}
 
 last_of-append : (before : Option ℕ) (nonces more : List ℕ) → last_of before (nonces ++ more) ≡ last_of (last_of before nonces) more
@@ -39,7 +39,7 @@ module _ (settings : GatewaySettings) (first : ℕ) where
   IsGood events = HasAcceptedQuery settings first events
 
   -- the exchange after these events is a sound one
-  pub IsSoundAfter : List GatewayEvent → Type 0
+  abbrev pub IsSoundAfter : List GatewayEvent → Type 0
   IsSoundAfter events =
       IsSound (IsGood events) settings (last_request settings first events) (run_of settings first events).exchange
 
@@ -88,7 +88,6 @@ module _ (settings : GatewaySettings) (first : ℕ) where
 
   pub answer-sound : (events : List GatewayEvent) (event : GatewayEvent) → IsSoundAfter events
       → IsSoundAnswer (IsGood (events ++ event ∷ [])) settings (last_request settings first events) (answer_after settings first events event)
-  unfolding IsSoundAfter
   answer-sound events event is = (lawful events event).sound (record {
     relay = is.relay;
     query = is.query;
@@ -98,7 +97,6 @@ module _ (settings : GatewaySettings) (first : ℕ) where
   })
 
   more-sound : (before later : List GatewayEvent) → IsSoundAfter before → IsSoundAfter (before ++ later)
-  unfolding IsSoundAfter
   more-sound before [] is = subst IsSoundAfter (sym (append-nil before)) is
   more-sound before (event ∷ later) is =
       let Good = IsGood (before ++ event ∷ []) in
@@ -108,7 +106,6 @@ module _ (settings : GatewaySettings) (first : ℕ) where
       subst IsSoundAfter (append_assoc before (event ∷ []) later) (more-sound (before ++ event ∷ []) later next)
 
   pub run-sound : (events : List GatewayEvent) → IsSoundAfter events
-  unfolding IsSoundAfter
   run-sound events = more-sound [] events (rw (run_of-nil settings first) (record { relay = tt; query = tt; kept = λ peer set. (set, tt); request = tt; by = tt }))
 
   -- where each message goes, by the relay after the event
@@ -118,15 +115,3 @@ module _ (settings : GatewaySettings) (first : ℕ) where
       let answer = answer_after settings first events event in
       subst (λ (run : Run). All (IsDirected settings run.exchange.relay) answer.sends) (sym (run_of-append settings first events event))
       (All-weaker (IsFit (IsGood (events ++ event ∷ [])) settings answer.next.relay) (IsDirected settings answer.next.relay) (λ sending is. is.0) answer.sends (answer-sound events event (run-sound events)).sends)
-
-  pub relay-is-known : (events : List GatewayEvent) → HasRelay (run_of settings first events).exchange.state (run_of settings first events).exchange.relay
-  unfolding IsSoundAfter
-  relay-is-known events = (run-sound events).relay
-
-  pub relay-is-configured : (events : List GatewayEvent) (relay : Peer) → settings.relay ≡ Some relay → (run_of settings first events).exchange.relay ≡ Some relay
-  unfolding IsSoundAfter
-  relay-is-configured events relay configured = ((run-sound events).kept relay configured).0
-
-  pub query-is-kept : (events : List GatewayEvent) → HasQuery (run_of settings first events).exchange.state (run_of settings first events).exchange.query
-  unfolding IsSoundAfter
-  query-is-kept events = (run-sound events).query

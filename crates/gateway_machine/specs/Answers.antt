@@ -57,9 +57,7 @@ due_answer InActive settings exchange = ask settings (requesting exchange)
 -- the gateway is Idle
 abbrev pub is_idle : GatewayState → Bool
 is_idle InIdle = true
-is_idle InDiscovering = false
-is_idle InRequesting = false
-is_idle InActive = false
+is_idle state = false
 
 -- the answer to the exchange's moment
 abbrev pub answer_at : GatewaySettings → Exchange → List AcceptedCall → Answer
@@ -71,9 +69,7 @@ answer_at settings exchange history =
 -- the call opens a socket, which starts an idle gateway
 abbrev pub is_opening : SocketCall → Bool
 is_opening (Open name group filter) = true
-is_opening (Change name filter) = false
-is_opening (Close name) = false
-is_opening LeaveAll = false
+is_opening call = false
 
 -- the answer to a call that changes the groups' filters by these records
 abbrev pub changed_answer : GatewaySettings → Exchange → List AcceptedCall → List Record → Answer
@@ -84,11 +80,9 @@ changed_answer settings exchange history (first ∷ more) =
 -- the answer to an accepted call, by the history before and after it
 abbrev pub accepted_answer : GatewayState → Bool → GatewaySettings → Exchange → List AcceptedCall → List AcceptedCall → Answer
 accepted_answer InIdle true settings exchange before after = begin_with exchange.relay settings exchange
-accepted_answer InIdle false settings exchange before after = quiet Kept exchange
-accepted_answer InDiscovering opening settings exchange before after = quiet Kept exchange
-accepted_answer InRequesting opening settings exchange before after = quiet Kept exchange
 accepted_answer InActive opening settings exchange before after =
     changed_answer settings exchange after (change_records (family_of settings) before after)
+accepted_answer state opening settings exchange before after = quiet Kept exchange
 
 -- the answer to a call, which may be refused
 abbrev pub call_by : Option SocketRefusal → Answer → Exchange → Answer
@@ -112,23 +106,18 @@ abbrev pub advertisement_answer : GatewayState → GatewaySettings → Exchange 
 advertisement_answer InDiscovering settings exchange nonce relay =
     if exchange.nonce == nonce then ask settings (requesting (relay_named relay settings.port exchange))
     else ignored exchange (Nonce exchange.nonce nonce)
-advertisement_answer InIdle settings exchange nonce relay = ignored exchange (State 2)
-advertisement_answer InRequesting settings exchange nonce relay = ignored exchange (State 2)
-advertisement_answer InActive settings exchange nonce relay = ignored exchange (State 2)
+advertisement_answer state settings exchange nonce relay = ignored exchange (State 2)
 
 -- the relay that a Query is awaited from
 abbrev pub asked_relay : GatewayState → Option Peer → Option Peer
-asked_relay InIdle relay = None
-asked_relay InDiscovering relay = None
 asked_relay InRequesting relay = relay
-asked_relay InActive relay = None
+asked_relay state relay = None
 
 -- the relay that packets are taken from
 abbrev pub joined_relay : GatewayState → Option Peer → Option Peer
-joined_relay InIdle relay = None
-joined_relay InDiscovering relay = None
 joined_relay InRequesting relay = relay
 joined_relay InActive relay = relay
+joined_relay state relay = None
 
 -- the peers are one
 abbrev pub same_peer : Peer → Peer → Bool
@@ -222,13 +211,11 @@ event_answer settings exchange history LeavesAll = call_answer settings exchange
 
 -- the call that an event makes, if it makes one
 abbrev pub call_in : GatewayEvent → Option SocketCall
-call_in (Moment at) = None
-call_in (Draws nonce) = None
-call_in (Datagram from bytes) = None
 call_in (Opens name group filter) = Some (Open name group filter)
 call_in (Changes name filter) = Some (Change name filter)
 call_in (Closes name) = Some (Close name)
 call_in LeavesAll = Some LeaveAll
+call_in event = None
 
 -- the history with a call, unless it is refused
 abbrev pub if_accepted : Option SocketRefusal → List AcceptedCall → List AcceptedCall → List AcceptedCall

@@ -3,7 +3,7 @@ use Rattle.std.specs.Prelude.{◌≡◌, ◌≤◌, true, length, All}
 use Rattle.amt_values.specs.Group.{is_forwardable}
 use Rattle.source_filter.specs.Filter.{FilterValue}
 use Rattle.group_records.specs.Written.{is_of_family}
-use Rattle.gateway_machine.specs.{declared.{event.GatewayEvent.{GatewayEvent, TheVariants.{Moment, Nonce, Datagram, Open, Change, Close, LeaveAll}}, settings.GatewaySettings.{GatewaySettings}}, Settings.{family_of}}
+use Rattle.gateway_machine.specs.{declared.{event.GatewayEvent.{GatewayEvent, TheVariants.{Nonce, Datagram, Open, Change}}, settings.GatewaySettings.{GatewaySettings}}, Settings.{family_of}}
 
 -- the sources of a socket's filter are of the gateway's family, and their number can be told
 pub record IsFilterOf (settings : GatewaySettings) (filter : FilterValue) : Type 0 where
@@ -13,21 +13,13 @@ pub record IsFilterOf (settings : GatewaySettings) (filter : FilterValue) : Type
 -- a datagram of at most 65,535 octets, as no UDP payload has more; a socket of a group of the gateway's
 -- family that packets are forwarded to
 abbrev pub IsEventOf : GatewaySettings → GatewayEvent → Type 0
-IsEventOf settings (Moment at) = Unit {0}
-IsEventOf settings (Nonce nonce) = Unit {0}
 IsEventOf settings (Datagram from bytes) = length bytes ≤ 65535
 IsEventOf settings (Open name group filter) =
     (is_forwardable group ≡ true) × (is_of_family (family_of settings) group ≡ true) × IsFilterOf settings filter
 IsEventOf settings (Change name filter) = IsFilterOf settings filter
-IsEventOf settings (Close name) = Unit {0}
-IsEventOf settings LeaveAll = Unit {0}
+IsEventOf settings event = Unit {0}
 
 -- the event brings a nonce
 abbrev pub IsDraw : GatewayEvent → Type 0
-IsDraw (Moment at) = ⊥
 IsDraw (Nonce nonce) = Unit {0}
-IsDraw (Datagram from bytes) = ⊥
-IsDraw (Open name group filter) = ⊥
-IsDraw (Change name filter) = ⊥
-IsDraw (Close name) = ⊥
-IsDraw LeaveAll = ⊥
+IsDraw event = ⊥

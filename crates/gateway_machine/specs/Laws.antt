@@ -1,21 +1,16 @@
 -- What holds of each datagram and each packet that a gateway lets out, and of its exchange, over every run.
 use Rattle.std.specs.{Prelude.{◌≡◌, ℕ, Bool, true, List, [], ◌∷◌, ◌++◌, All, Option, Some, None, map}, List.{filter_map}}
 use Rattle.amt_values.specs.{EndpointValue.{EndpointValue}, Group.{is_forwardable}, declared.{mac.Mac48.{Mac48}, peer.Peer.{Peer}}}
-use Rattle.amt_messages.specs.{Layout.{Spells}, declared.message.Message.{Message, TheVariants.{Discovery, Advertisement, Request, Query, Update, Multicast, Teardown}}}
+use Rattle.amt_messages.specs.{Layout.{Spells}, declared.message.Message.{Message, TheVariants.{Discovery, Request, Query, Update, Multicast, Teardown}}}
 use Rattle.inner_datagrams.specs.{Head.{IsHead}, declared.head.Head.{Head}}
 use Rattle.socket_merge.specs.Interface.{wants}
 use Rattle.gateway_machine.specs.declared.{event.GatewayEvent.{GatewayEvent, TheVariants.{Datagram}}, exchange.GatewayState.{GatewayState}}
-use Rattle.gateway_machine.specs.{declared.{exchange.{GatewayState.TheVariants.{Idle as InIdle, Discovering as InDiscovering, Requesting as InRequesting, Active as InActive}, LastQuery.{LastQuery}}, outcome.GatewayOutcome.TheVariants.{Active}, settings.GatewaySettings.{GatewaySettings}, step.PeerSend.{PeerSend}}, Runs.{answer_after, run_of}, Sends.{Sending, datagram_of}}
+use Rattle.gateway_machine.specs.{declared.{exchange.{GatewayState.TheVariants.{Requesting as InRequesting, Active as InActive}, LastQuery.{LastQuery}}, outcome.GatewayOutcome.TheVariants.{Active}, settings.GatewaySettings.{GatewaySettings}, step.PeerSend.{PeerSend}}, Runs.{answer_after, run_of}, Sends.{Sending, datagram_of}}
 
 -- the nonce of a Request
 abbrev pub nonce_asked : Message → Option ℕ
-nonce_asked (Discovery nonce) = None
-nonce_asked (Advertisement nonce relay) = None
 nonce_asked (Request v6 nonce) = Some nonce
-nonce_asked (Query limited mac nonce inner seen) = None
-nonce_asked (Update mac nonce inner) = None
-nonce_asked (Multicast packet) = None
-nonce_asked (Teardown mac nonce gateway) = None
+nonce_asked message = None
 
 -- the last item
 abbrev pub last_of : {X : Type 0} → Option X → List X → Option X
@@ -78,28 +73,23 @@ pub record IsWantedPacket (settings : GatewaySettings) (first : ℕ) (events : L
 
 -- a relay is known in the states in which its Query or its packets come (RFC 7450, section 5.2.3)
 abbrev pub HasRelay : GatewayState → Option Peer → Type 0
-HasRelay InIdle relay = Unit {0}
-HasRelay InDiscovering relay = Unit {0}
 HasRelay InRequesting relay = (peer : Peer) × (relay ≡ Some peer)
 HasRelay InActive relay = (peer : Peer) × (relay ≡ Some peer)
+HasRelay state relay = Unit {0}
 
 -- a Query is kept where changes are reported by its MAC (RFC 7450, section 5.2.3.6)
 abbrev pub HasQuery : GatewayState → Option LastQuery → Type 0
-HasQuery InIdle query = Unit {0}
-HasQuery InDiscovering query = Unit {0}
-HasQuery InRequesting query = Unit {0}
 HasQuery InActive query = (last : LastQuery) × (query ≡ Some last)
+HasQuery state query = Unit {0}
 
 -- Where a gateway with this relay sends a message: a Discovery to the relay discovery address (RFC 7450, section
 -- 5.2.3.4), a Request, an Update and a Teardown to its relay. It sends no other message.
 abbrev pub destination : Peer → Option Peer → Message → Option Peer
 destination discovery relay (Discovery nonce) = Some discovery
-destination discovery relay (Advertisement nonce named) = None
 destination discovery relay (Request v6 nonce) = relay
-destination discovery relay (Query limited mac nonce inner seen) = None
 destination discovery relay (Update mac nonce inner) = relay
-destination discovery relay (Multicast packet) = None
 destination discovery relay (Teardown mac nonce gateway) = relay
+destination discovery relay message = None
 
 -- the message goes there
 abbrev pub IsDirected : GatewaySettings → Option Peer → Sending → Type 0

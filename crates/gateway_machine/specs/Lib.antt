@@ -1,5 +1,4 @@
 pub mod Answers
-pub mod Calls
 pub mod Due
 pub mod Events
 pub mod Exchange
@@ -12,4 +11,5 @@ pub mod Runs
 pub mod Sends
 pub mod Settings
 pub mod State
+pub mod Taken
 pub mod Timing

@@ -1,7 +1,7 @@
 //! What an Advertisement comes to.
 
 ghost use Rattle.std.specs.Prelude.{IfOk, IsOk};
-ghost use Rattle.gateway_machine.specs.{Answers.{advertisement_answer}, Outcomes.{IsRefused}, Sends.{AreShort}, State.{IsReply}};
+ghost use Rattle.gateway_machine.specs.{Answers.{advertisement_answer}, Outcomes.{IsRefused}, Taken.{IsReply}};
 
 use crate::asking::ask;
 use crate::exchange::{Exchange, GatewayState};
@@ -22,7 +22,6 @@ pub fn take_advertisement(
 ) -> Result<Reply, AllocError>
     ensures answers { IfOk result (IsReply
         (advertisement_answer exchange.now.state settings.now exchange.now nonce relay)) }
-    ensures short { IfOk result (λ reply. AreShort reply.step.sends) }
     ensures ignored { IsRefused
         (advertisement_answer exchange.now.state settings.now exchange.now nonce relay).outcome → IsOk result }
 {

@@ -1,50 +1,56 @@
 //! Discoveries and Requests.
 
-ghost use Rattle.std.specs.Prelude.{IfOk, IsOk};
-ghost use Rattle.gateway_machine.specs.{Answers.{ask, begin_with, discover, due_answer}, Outcomes.{IsAtRest}, Sends.{AreShort}, State.{IsReply}};
+ghost use Rattle.std.specs.Prelude.{false, IfOk, IsOk};
+ghost use Rattle.amt_messages.specs.Messages.{IsSendable};
+ghost use Rattle.gateway_machine.specs.{Answers.{ask, begin_with, discover, due_answer, sending}, Outcomes.{IsAtRest}, Sends.{to_relay}, Taken.{IsReply}};
 
 use crate::exchange::{Exchange, GatewayState};
 use crate::outcome::GatewayOutcome;
 use crate::reply::Reply;
 use crate::settings::GatewaySettings;
-use crate::step::{PeerSend, PeerSends};
-use amt_messages::{Message, encode};
+use crate::short_sends::ShortSends;
+use amt_messages::Message;
 use amt_values::Peer;
 use std::alloc::{AllocError, Global};
 
 // How many Requests are sent with one nonce.
 const MOST_REQUESTS: u8 = 5;
 
+// The reply in which this message is sent, if there is a peer to send it to.
+fn send_one(
+    alloc: Global,
+    to: Option<Peer>,
+    message: &Message,
+    outcome: GatewayOutcome,
+    next: Exchange,
+) -> Result<Reply, AllocError>
+    requires { IsSendable message.now }
+    ensures { IfOk result (IsReply (sending outcome (to_relay to false message.now) next)) }
+{
+    let mut sends = ShortSends::new(alloc);
+    sends.push(alloc, to, message)?;
+    Ok(Reply::sending(outcome, sends, next))
+}
+
 // The answer where a Discovery is sent, with the exchange after it.
 fn discover(alloc: Global, settings: &GatewaySettings, next: Exchange) -> Result<Reply, AllocError>
-    ensures answers { IfOk result (IsReply (discover settings.now next)) }
-    ensures short { IfOk result (λ reply. AreShort reply.step.sends) }
+    ensures { IfOk result (IsReply (discover settings.now next)) }
 {
-    let bytes = encode(alloc, &Message::Discovery { nonce: next.nonce })?;
-    let mut sends = PeerSends::with_room(alloc, 1)?;
-    sends.push(PeerSend {
-        to: settings.discovery,
-        bytes,
-    })?;
-    Ok(Reply::sending(GatewayOutcome::Discovering(next.tries), sends, next))
+    let message = Message::Discovery { nonce: next.nonce };
+    let outcome = GatewayOutcome::Discovering(next.tries);
+    send_one(alloc, Some(settings.discovery), &message, outcome, next)
 }
 
 /// The answer where a Request is sent, with the exchange after it.
 pub fn ask(alloc: Global, settings: &GatewaySettings, next: Exchange) -> Result<Reply, AllocError>
-    ensures answers { IfOk result (IsReply (ask settings.now next)) }
-    ensures short { IfOk result (λ reply. AreShort reply.step.sends) }
+    ensures { IfOk result (IsReply (ask settings.now next)) }
 {
     let message = Message::Request {
         v6: settings.v6,
         nonce: next.nonce,
     };
-    let mut sends = PeerSends::with_room(alloc, 1)?;
-    // The law states_have_relays excludes that none is known.
-    if let Some(to) = next.relay {
-        let bytes = encode(alloc, &message)?;
-        sends.push(PeerSend { to, bytes })?;
-    }
-    Ok(Reply::sending(GatewayOutcome::Requesting(next.tries), sends, next))
+    let outcome = GatewayOutcome::Requesting(next.tries);
+    send_one(alloc, next.relay, &message, outcome, next)
 }
 
 /// The answer that begins an exchange: a Request is sent where a relay is known, else a Discovery.
@@ -55,7 +61,6 @@ pub fn begin(
     known: Option<Peer>,
 ) -> Result<Reply, AllocError>
     ensures answers { IfOk result (IsReply (begin_with known settings.now exchange.now)) }
-    ensures short { IfOk result (λ reply. AreShort reply.step.sends) }
     ensures rests { IsAtRest (begin_with known settings.now exchange.now).outcome → IsOk result }
 {
     match known {
@@ -71,7 +76,6 @@ pub fn answer_due(
     exchange: &Exchange,
 ) -> Result<Reply, AllocError>
     ensures answers { IfOk result (IsReply (due_answer exchange.now.state settings.now exchange.now)) }
-    ensures short { IfOk result (λ reply. AreShort reply.step.sends) }
     ensures rests { IsAtRest (due_answer exchange.now.state settings.now exchange.now).outcome → IsOk result }
 {
     match exchange.state {

@@ -1,196 +1,118 @@
 //! What socket calls come to. A call is made on a copy of the sockets, which takes their place where the reply is
 //! whole.
 
-ghost use Rattle.std.specs.Prelude.{◌≡◌, ℕ, ◌≤◌, true, length, All, IfOk};
-ghost use Rattle.amt_values.specs.Group.{is_forwardable};
+ghost use Rattle.std.specs.Prelude.{◌≡◌, ℕ, ◌≤◌, All, IfOk, IfSome};
 ghost use Rattle.group_records.specs.Written.{IsOfFamily, report_length};
-ghost use Rattle.socket_merge.specs.{History.{Change, Close, LeaveAll, Open, SocketCall, with_call}, Sockets.{AreOfGroup, AreOfSocket, ForHistory, SocketsHold}, Changes.{IsOneCallAfter, change_records}, FullReport.{family_by}};
-ghost use Rattle.gateway_machine.specs.{Answers.{accepted_answer, changed_answer}, Calls.{AnswersCall, call_fault}, Sends.{AreShort}, Settings.{HasSourceOfFamily}, State.{IsAtMoment, IsReply}};
+ghost use Rattle.socket_merge.specs.{History.{SocketCall, with_call}, Sockets.{ForHistory, SocketsHold}, Changes.{IsOneCallAfter, change_records}, FullReport.{family_by}};
+ghost use Rattle.gateway_machine.specs.{Answers.{accepted_answer, call_in, changed_answer}, Events.{IsEventOf}, Taken.{AnswersCall, IsReply}};
 
 use crate::asking::begin;
-use crate::exchange::{Exchange, GatewayState};
-use crate::outcome::{GatewayOutcome, SocketRefusal};
+use crate::event::GatewayEvent;
+use crate::exchange::GatewayState;
+use crate::outcome::GatewayOutcome;
 use crate::reply::Reply;
-use crate::report::push_change_reports;
-use crate::settings::GatewaySettings;
-use crate::step::PeerSends;
-use amt_values::{Ip, Moment};
-use group_records::{ITEM_LIMIT, REPORT_LIMIT};
+use crate::report::{push_full_report, push_update};
+use crate::short_sends::ShortSends;
+use crate::situation::Situation;
+use group_records::REPORT_LIMIT;
 use socket_merge::{SocketFault, Sockets};
-use source_filter::{Filter, Records};
+use source_filter::Records;
 use std::alloc::{AllocError, Global};
 
-/// Why no sockets came of a call.
-#[derive(Clone, Copy, Debug)]
-pub enum CallFault {
-    Refused(SocketRefusal),
-    Memory,
-}
-
-fn call_fault(fault: SocketFault) -> CallFault
-    ensures { result ≡ call_fault fault }
+/// The sockets after the event's call, or why it isn't made. What is no call has none.
+pub fn make_call(
+    alloc: Global,
+    here: &Situation<'_>,
+    event: &GatewayEvent,
+) -> Result<Sockets, SocketFault>
+    requires { IsEventOf here.now.settings event.now }
+    ensures answers { ForHistory here.now.sockets.now (λ history. IfSome (call_in event.now) (λ call.
+        AnswersCall here.now.exchange history call result)) }
+    ensures one_call { IfOk result (λ after.
+        IsOneCallAfter here.now.sockets.now.sockets after.sockets) }
 {
-    match fault {
-        SocketFault::Taken => CallFault::Refused(SocketRefusal::Taken),
-        SocketFault::NoSocket => CallFault::Refused(SocketRefusal::NoSocket),
-        SocketFault::SourcesFull(sources) => {
-            CallFault::Refused(SocketRefusal::SourcesFull(sources))
+    let Ok(mut after) = here.sockets.copy_all(alloc) else {
+        return Err(SocketFault::Memory);
+    };
+    let at = &here.exchange.moment;
+    match event {
+        GatewayEvent::Open {
+            name,
+            group,
+            filter,
+        } => match after.open(alloc, name.as_slice(), group, filter, at) {
+            Ok(()) => Ok(after),
+            Err(fault) => Err(fault),
+        },
+        GatewayEvent::Change { name, filter } => {
+            match after.change(alloc, name.as_slice(), filter, at) {
+                Ok(()) => Ok(after),
+                Err(fault) => Err(fault),
+            }
         }
-        SocketFault::ReportFull(octets) => CallFault::Refused(SocketRefusal::ReportFull(octets)),
-        SocketFault::Memory => CallFault::Memory,
+        GatewayEvent::Close { name } => match after.close(name.as_slice(), at) {
+            Ok(()) => Ok(after),
+            Err(_) => Err(SocketFault::NoSocket),
+        },
+        GatewayEvent::LeaveAll => {
+            after.leave_all(at);
+            Ok(after)
+        }
+        _ => Err(SocketFault::Memory),
     }
-}
-
-/// The sockets after one is opened.
-pub fn open_socket(
-    alloc: Global,
-    sockets: &Sockets,
-    at: &Moment,
-    name: &[u8],
-    group: &Ip,
-    filter: &Filter,
-) -> Result<Sockets, CallFault>
-    requires forwarded { is_forwardable group.now ≡ true }
-    requires family { AreOfGroup group.now filter.now }
-    requires items { length filter.now.sources ≤ ITEM_LIMIT }
-    ensures answers { ForHistory sockets.now (λ history.
-        AnswersCall at.now history (Open name.now group.now filter.now) result) }
-    ensures one_call { IfOk result (λ after.
-        IsOneCallAfter sockets.now.sockets after.sockets) }
-{
-    let Ok(mut after) = sockets.copy_all(alloc) else {
-        return Err(CallFault::Memory);
-    };
-    match after.open(alloc, name, group, filter, at) {
-        Ok(()) => Ok(after),
-        Err(fault) => Err(call_fault(fault)),
-    }
-}
-
-/// The sockets after one has another filter.
-pub fn change_socket(
-    alloc: Global,
-    sockets: &Sockets,
-    at: &Moment,
-    name: &[u8],
-    filter: &Filter,
-) -> Result<Sockets, CallFault>
-    requires family { AreOfSocket name.now sockets.now filter.now }
-    requires items { length filter.now.sources ≤ ITEM_LIMIT }
-    ensures answers { ForHistory sockets.now (λ history.
-        AnswersCall at.now history (Change name.now filter.now) result) }
-    ensures one_call { IfOk result (λ after.
-        IsOneCallAfter sockets.now.sockets after.sockets) }
-{
-    let Ok(mut after) = sockets.copy_all(alloc) else {
-        return Err(CallFault::Memory);
-    };
-    match after.change(alloc, name, filter, at) {
-        Ok(()) => Ok(after),
-        Err(fault) => Err(call_fault(fault)),
-    }
-}
-
-/// The sockets after one is closed.
-pub fn close_socket(
-    alloc: Global,
-    sockets: &Sockets,
-    at: &Moment,
-    name: &[u8],
-) -> Result<Sockets, CallFault>
-    ensures answers { ForHistory sockets.now (λ history.
-        AnswersCall at.now history (Close name.now) result) }
-    ensures one_call { IfOk result (λ after.
-        IsOneCallAfter sockets.now.sockets after.sockets) }
-{
-    let Ok(mut after) = sockets.copy_all(alloc) else {
-        return Err(CallFault::Memory);
-    };
-    match after.close(name, at) {
-        Ok(()) => Ok(after),
-        Err(_) => Err(CallFault::Refused(SocketRefusal::NoSocket)),
-    }
-}
-
-/// The sockets after all are closed.
-pub fn leave_all(alloc: Global, sockets: &Sockets, at: &Moment) -> Result<Sockets, CallFault>
-    ensures answers { ForHistory sockets.now (λ history. AnswersCall at.now history LeaveAll result) }
-    ensures one_call { IfOk result (λ after.
-        IsOneCallAfter sockets.now.sockets after.sockets) }
-{
-    let Ok(mut after) = sockets.copy_all(alloc) else {
-        return Err(CallFault::Memory);
-    };
-    after.leave_all(at);
-    Ok(after)
 }
 
 // The records of what a call changed, from the sockets before it to those after it.
-fn call_changes(
-    alloc: Global,
-    settings: &GatewaySettings,
-    before: &Sockets,
-    after: &Sockets,
-) -> Result<Records, AllocError>
-    requires { IsOneCallAfter before.now.sockets after.now.sockets }
-    ensures records { ForHistory before.now (λ history. (at : ℕ) (call : SocketCall)
-        → SocketsHold after.now (with_call at call history) → IfOk result (λ records.
-        records ≡ change_records (family_by settings.now.v6) history (with_call at call history))) }
-    ensures family { IfOk result (All (IsOfFamily (family_by settings.now.v6))) }
+fn call_changes(alloc: Global, here: &Situation<'_>, after: &Sockets) -> Result<Records, AllocError>
+    requires { IsOneCallAfter here.now.sockets.now.sockets after.now.sockets }
+    ensures records { ForHistory here.now.sockets.now (λ history. (at : ℕ) (call : SocketCall)
+        → SocketsHold after.now (with_call at call history) → IfOk result (λ records. records
+        ≡ change_records (family_by here.now.settings.v6) history (with_call at call history))) }
+    ensures family { IfOk result (All (IsOfFamily (family_by here.now.settings.v6))) }
     ensures most { IfOk result (λ records.
-        report_length (family_by settings.now.v6) records ≤ REPORT_LIMIT) }
+        report_length (family_by here.now.settings.v6) records ≤ REPORT_LIMIT) }
 {
-    after.changes_since(alloc, before, settings.v6)
+    after.changes_since(alloc, here.sockets, here.settings.v6)
 }
 
 // What a call comes to in state Active: what it changed is reported.
-fn report_changes(
-    alloc: Global,
-    settings: &GatewaySettings,
-    exchange: &Exchange,
-    before: &Sockets,
-    after: &Sockets,
-) -> Result<Reply, AllocError>
-    requires source { HasSourceOfFamily settings.now }
-    requires at { IsAtMoment exchange.now before.now }
-    requires one_call { IsOneCallAfter before.now.sockets after.now.sockets }
-    ensures answers { ForHistory before.now (λ history. (call : SocketCall)
-        → SocketsHold after.now (with_call exchange.now.moment call history)
-        → IfOk result (IsReply (changed_answer settings.now exchange.now
-        (with_call exchange.now.moment call history)
-        (change_records (family_by settings.now.v6) history (with_call exchange.now.moment call history))))) }
-    ensures short { IfOk result (λ reply. AreShort reply.step.sends) }
+fn report_changes(alloc: Global, here: &Situation<'_>, after: &Sockets) -> Result<Reply, AllocError>
+    requires { IsOneCallAfter here.now.sockets.now.sockets after.now.sockets }
+    ensures { ForHistory here.now.sockets.now (λ history. (call : SocketCall)
+        → SocketsHold after.now (with_call here.now.exchange.moment call history)
+        → IfOk result (IsReply (changed_answer here.now.settings here.now.exchange
+        (with_call here.now.exchange.moment call history)
+        (change_records (family_by here.now.settings.v6) history
+        (with_call here.now.exchange.moment call history))))) }
 {
-    let changes = call_changes(alloc, settings, before, after)?;
+    let exchange = &here.exchange;
+    let changes = call_changes(alloc, here, after)?;
     if changes.len() == 0 {
         return Ok(Reply::quiet(alloc, GatewayOutcome::Kept, *exchange));
     }
-    let mut sends = PeerSends::new(alloc);
-    push_change_reports(&mut sends, alloc, settings, exchange, after, &changes)?;
+    let mut sends = ShortSends::new(alloc);
+    push_update(&mut sends, alloc, &here.settings, exchange, &changes)?;
+    push_full_report(&mut sends, alloc, &here.settings, exchange, after)?;
     Ok(Reply::sending(GatewayOutcome::Changed, sends, *exchange))
 }
 
-/// What a call comes to that is accepted, by the sockets before and after it.
+/// What a call comes to that is accepted, by the sockets after it.
 pub fn answer_accepted(
     alloc: Global,
-    settings: &GatewaySettings,
-    exchange: &Exchange,
+    here: &Situation<'_>,
     opening: bool,
-    before: &Sockets,
     after: &Sockets,
 ) -> Result<Reply, AllocError>
-    requires source { HasSourceOfFamily settings.now }
-    requires at { IsAtMoment exchange.now before.now }
-    requires one_call { IsOneCallAfter before.now.sockets after.now.sockets }
-    ensures answers { ForHistory before.now (λ history. (call : SocketCall)
-        → SocketsHold after.now (with_call exchange.now.moment call history)
-        → IfOk result (IsReply (accepted_answer exchange.now.state opening settings.now exchange.now
-        history (with_call exchange.now.moment call history)))) }
-    ensures short { IfOk result (λ reply. AreShort reply.step.sends) }
+    requires { IsOneCallAfter here.now.sockets.now.sockets after.now.sockets }
+    ensures { ForHistory here.now.sockets.now (λ history. (call : SocketCall)
+        → SocketsHold after.now (with_call here.now.exchange.moment call history)
+        → IfOk result (IsReply (accepted_answer here.now.exchange.state opening here.now.settings
+        here.now.exchange history (with_call here.now.exchange.moment call history)))) }
 {
+    let exchange = &here.exchange;
     match exchange.state {
-        GatewayState::Active => report_changes(alloc, settings, exchange, before, after),
-        GatewayState::Idle if opening => begin(alloc, settings, exchange, exchange.relay),
+        GatewayState::Active => report_changes(alloc, here, after),
+        GatewayState::Idle if opening => begin(alloc, &here.settings, exchange, exchange.relay),
         _ => Ok(Reply::quiet(alloc, GatewayOutcome::Kept, *exchange)),
     }
 }

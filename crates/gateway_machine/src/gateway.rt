@@ -7,8 +7,9 @@ use crate::event::GatewayEvent;
 use crate::exchange::{Exchange, GatewayState};
 use crate::moment::due_at;
 use crate::settings::GatewaySettings;
+use crate::situation::Situation;
 use crate::step::GatewayStep;
-use crate::taken::{Taken, answer_event};
+use crate::taken::{answer_event, replace_sockets};
 use amt_values::{Ip, Moment};
 use socket_merge::Sockets;
 use std::alloc::{AllocError, Global};
@@ -144,16 +145,18 @@ impl Gateway {
         ensures needs_none { After self.old (λ settings first events. NeedsNoMemory event.now
             (answer_after settings first events event.now).outcome → IsOk result) }
     {
-        let Taken {
-            step,
-            next,
-            sockets,
-        } = answer_event(alloc, &self.settings, &self.exchange, &self.sockets, event)?;
-        self.exchange = next;
-        let Some(sockets) = sockets else {
-            return Ok(step);
+        let here = Situation {
+            settings: self.settings,
+            exchange: self.exchange,
+            sockets: &self.sockets,
         };
-        self.sockets = sockets;
-        Ok(step)
+        let (reply, sockets) = answer_event(alloc, &here, event)?;
+        self.exchange = reply.next;
+        replace_sockets(&mut self.sockets, sockets);
+        Ok(GatewayStep {
+            outcome: reply.outcome,
+            sends: reply.sends.datagrams,
+            deliver: reply.deliver,
+        })
     }
 }

@@ -1,17 +1,16 @@
 //! The reports that a gateway sends, as messages to its relay.
 
 ghost use Rattle.std.specs.Prelude.{◌≡◌, ◌≤◌, ◌++◌, length, map, Bool, All, IfOk, OnOk};
-ghost use Rattle.amt_messages.specs.Messages.{IsSendable};
 ghost use Rattle.group_records.specs.Written.{IsOfFamily, report_length};
 ghost use Rattle.socket_merge.specs.{FullReport.{family_by}, Refusal.{family_of}, Sockets.{ForHistory}};
-ghost use Rattle.gateway_machine.specs.{Reports.{change_reports, full_report, report_datagram, teardown, update}, Sends.{AreShort, datagram_of, to_relay}, Settings.{HasSourceOfFamily}, State.{IsAtMoment}};
+ghost use Rattle.gateway_machine.specs.{Reports.{full_report, report_datagram, teardown, update}, Sends.{datagram_of}, Settings.{HasSourceOfFamily}, State.{IsAtMoment}};
 
 use crate::exchange::{Exchange, LastQuery};
 use crate::settings::GatewaySettings;
-use crate::step::{PeerSend, PeerSends};
+use crate::short_sends::ShortSends;
 use crate::timing::farewell_ms;
-use amt_messages::{Message, encode};
-use amt_values::{Bytes, Ip, Peer};
+use amt_messages::Message;
+use amt_values::{Bytes, Ip};
 use group_records::REPORT_LIMIT;
 use igmp_records::write_report4;
 use inner_datagrams::{write_inner4, write_inner6};
@@ -45,29 +44,9 @@ fn report_datagram(alloc: Global, source: &Ip, records: &Records) -> Result<Byte
     }
 }
 
-// Puts a message to the relay at the end, if one is known.
-fn push_to_relay(
-    sends: &mut PeerSends,
-    alloc: Global,
-    relay: Option<Peer>,
-    message: &Message,
-) -> Result<(), AllocError>
-    requires { IsSendable message.now }
-    ensures appended { (full : Bool) → OnOk result (sends.new
-        ≡ sends.old ++ map datagram_of (to_relay relay full message.now)) }
-    ensures short { AreShort sends.old → OnOk result (AreShort sends.new) }
-{
-    // The law states_have_relays excludes that none is known.
-    let Some(to) = relay else {
-        return Ok(());
-    };
-    let bytes = encode(alloc, message)?;
-    sends.push(PeerSend { to, bytes })
-}
-
-// Puts the report of these records at the end, if there are any.
-fn push_update(
-    sends: &mut PeerSends,
+/// Puts the report of these records at the end, if there are any.
+pub fn push_update(
+    sends: &mut ShortSends,
     alloc: Global,
     settings: &GatewaySettings,
     exchange: &Exchange,
@@ -76,9 +55,8 @@ fn push_update(
     requires source { HasSourceOfFamily settings.now }
     requires family { All (IsOfFamily (family_by settings.now.v6)) records.now }
     requires most { report_length (family_by settings.now.v6) records.now ≤ REPORT_LIMIT }
-    ensures appended { (full : Bool) → OnOk result (sends.new
-        ≡ sends.old ++ map datagram_of (update settings.now exchange.now full records.now)) }
-    ensures short { AreShort sends.old → OnOk result (AreShort sends.new) }
+    ensures { (full : Bool) → OnOk result (sends.new.datagrams
+        ≡ sends.old.datagrams ++ map datagram_of (update settings.now exchange.now full records.now)) }
 {
     if records.len() == 0 {
         return Ok(());
@@ -93,60 +71,37 @@ fn push_update(
         nonce: query.nonce,
         inner,
     };
-    push_to_relay(sends, alloc, exchange.relay, &message)
+    sends.push(alloc, exchange.relay, &message)
 }
 
 /// Puts the report of all that is wanted at the end.
 pub fn push_full_report(
-    sends: &mut PeerSends,
+    sends: &mut ShortSends,
     alloc: Global,
     settings: &GatewaySettings,
     exchange: &Exchange,
     sockets: &Sockets,
 ) -> Result<(), AllocError>
     requires { HasSourceOfFamily settings.now }
-    ensures appended { IsAtMoment exchange.now sockets.now → ForHistory sockets.now (λ history. OnOk result
-        (sends.new ≡ sends.old ++ map datagram_of (full_report settings.now exchange.now history))) }
-    ensures short { AreShort sends.old → OnOk result (AreShort sends.new) }
+    ensures { IsAtMoment exchange.now sockets.now → ForHistory sockets.now (λ history. OnOk result
+        (sends.new.datagrams
+        ≡ sends.old.datagrams ++ map datagram_of (full_report settings.now exchange.now history))) }
 {
     let keep_ms = farewell_ms(exchange.query);
     let records = sockets.full_report(alloc, settings.v6, &exchange.moment, keep_ms)?;
     push_update(sends, alloc, settings, exchange, &records)
 }
 
-/// Puts the report of what changed at the end, if there is something, and then the one of all that is
-/// wanted.
-pub fn push_change_reports(
-    sends: &mut PeerSends,
-    alloc: Global,
-    settings: &GatewaySettings,
-    exchange: &Exchange,
-    sockets: &Sockets,
-    changes: &Records,
-) -> Result<(), AllocError>
-    requires source { HasSourceOfFamily settings.now }
-    requires family { All (IsOfFamily (family_by settings.now.v6)) changes.now }
-    requires most { report_length (family_by settings.now.v6) changes.now ≤ REPORT_LIMIT }
-    ensures appended { IsAtMoment exchange.now sockets.now → ForHistory sockets.now (λ history. OnOk result
-        (sends.new ≡ sends.old
-        ++ map datagram_of (change_reports settings.now exchange.now history changes.now))) }
-    ensures short { AreShort sends.old → OnOk result (AreShort sends.new) }
-{
-    push_update(sends, alloc, settings, exchange, changes)?;
-    push_full_report(sends, alloc, settings, exchange, sockets)
-}
-
 /// Puts the Teardown at the end of the endpoint that the relay saw at the last query, if it sees another
 /// one at this.
 pub fn push_teardown(
-    sends: &mut PeerSends,
+    sends: &mut ShortSends,
     alloc: Global,
     exchange: &Exchange,
     query: &LastQuery,
 ) -> Result<(), AllocError>
-    ensures appended { OnOk result (sends.new
-        ≡ sends.old ++ map datagram_of (teardown exchange.now.query query.now.seen exchange.now)) }
-    ensures short { AreShort sends.old → OnOk result (AreShort sends.new) }
+    ensures { OnOk result (sends.new.datagrams
+        ≡ sends.old.datagrams ++ map datagram_of (teardown exchange.now.query query.now.seen exchange.now)) }
 {
     let Some(last) = exchange.query else {
         return Ok(());
@@ -162,5 +117,5 @@ pub fn push_teardown(
         nonce: last.nonce,
         gateway: before,
     };
-    push_to_relay(sends, alloc, exchange.relay, &message)
+    sends.push(alloc, exchange.relay, &message)
 }

@@ -1,10 +1,7 @@
 //! What one event came to: its outcome, the datagrams to send, and the packet that is handed on.
 
-ghost use Rattle.std.specs.Prelude.{◌≡◌, [], None};
-
 use crate::outcome::GatewayOutcome;
 use amt_values::{Bytes, Items, Peer};
-use std::alloc::Global;
 
 /// A datagram to send.
 #[derive(Debug, Drop)]
@@ -22,19 +19,4 @@ pub struct GatewayStep {
     pub outcome: GatewayOutcome,
     pub sends: PeerSends,
     pub deliver: Option<Bytes>,
-}
-
-impl GatewayStep {
-    /// A step that sends nothing and hands nothing on.
-    pub(crate) fn quiet(alloc: Global, outcome: GatewayOutcome) -> GatewayStep
-        ensures outcome { result.outcome ≡ outcome }
-        ensures sends { result.sends ≡ [] }
-        ensures deliver { result.deliver ≡ None }
-    {
-        GatewayStep {
-            outcome,
-            sends: PeerSends::new(alloc),
-            deliver: None,
-        }
-    }
 }

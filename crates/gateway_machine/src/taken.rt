@@ -1,135 +1,111 @@
-//! What an event comes to before it is taken: the step, and the exchange and the sockets after it.
+//! What an event comes to before it is taken: the reply, and the sockets after it, where they are others.
 
-ghost use Rattle.std.specs.Prelude.{◌≡◌, None, IfOk, IsOk};
-ghost use Rattle.socket_merge.specs.{Changes.{IsOneCallAfter}, History.{SocketCall}, Sockets.{ForHistory}};
-ghost use Rattle.gateway_machine.specs.{Answers.{event_answer, is_opening}, Calls.{AnswersCall}, Events.{IsDraw, IsEventOf}, Outcomes.{NeedsNoMemory}, Sends.{AreShort}, Settings.{HasSourceOfFamily}, State.{AreOfSettings, IsAtMoment, IsTaken, IsTakenCall}};
+ghost use Rattle.std.specs.Prelude.{◌≡◌, Option, IfOk, IfSome, IsOk, unwrap_or};
+ghost use Rattle.socket_merge.specs.Sockets.{ForHistory};
+ghost use Rattle.gateway_machine.specs.{Answers.{call_in, event_answer, is_opening}, Events.{IsDraw, IsEventOf}, Outcomes.{NeedsNoMemory}, Refusals.{refusal_in}, Taken.{IsTaken, IsTakenCall}};
 
-use crate::calls::{
-    CallFault, answer_accepted, change_socket, close_socket, leave_all, open_socket,
-};
+use crate::calls::{answer_accepted, make_call};
 use crate::datagram::take_datagram;
 use crate::event::GatewayEvent;
-use crate::exchange::Exchange;
 use crate::moment::answer_at;
-use crate::outcome::GatewayOutcome;
+use crate::outcome::{GatewayOutcome, SocketRefusal};
 use crate::reply::Reply;
-use crate::settings::GatewaySettings;
-use crate::step::GatewayStep;
-use socket_merge::Sockets;
+use crate::situation::Situation;
+use socket_merge::{SocketFault, Sockets};
 use std::alloc::{AllocError, Global};
 
-/// A step that may be taken, the exchange after it, and the sockets after it, where they are others.
-#[derive(Debug, Drop)]
-pub struct Taken {
-    pub step: GatewayStep,
-    pub next: Exchange,
-    pub sockets: Option<Sockets>,
-}
-
-impl Taken {
-    // The sockets stay as they are.
-    fn kept(reply: Reply) -> Taken
-        ensures step { result.step ≡ reply.step }
-        ensures next { result.next ≡ reply.next }
-        ensures sockets { result.sockets ≡ None }
-    {
-        Taken {
-            step: reply.step,
-            next: reply.next,
-            sockets: None,
-        }
+/// The others take the place of the sockets, if there are others.
+pub fn replace_sockets(sockets: &mut Sockets, others: Option<Sockets>)
+    ensures { sockets.new ≡ unwrap_or others sockets.old }
+{
+    if let Some(others) = others {
+        *sockets = others;
     }
 }
 
-// What a socket call comes to, by the sockets after it or why there are none.
+// The refusal in a fault of the sockets. Out of memory is none.
+fn refusal_in(fault: SocketFault) -> Option<SocketRefusal>
+    ensures { result ≡ refusal_in fault }
+{
+    match fault {
+        SocketFault::Taken => Some(SocketRefusal::Taken),
+        SocketFault::NoSocket => Some(SocketRefusal::NoSocket),
+        SocketFault::SourcesFull(sources) => Some(SocketRefusal::SourcesFull(sources)),
+        SocketFault::ReportFull(octets) => Some(SocketRefusal::ReportFull(octets)),
+        SocketFault::Memory => None,
+    }
+}
+
+// Whether the event opens a socket.
+fn is_opening(event: &GatewayEvent) -> bool
+    ensures { IfSome (call_in event.now) (λ call. result ≡ is_opening call) }
+{
+    match event {
+        GatewayEvent::Open { .. } => true,
+        _ => false,
+    }
+}
+
+// What the socket call of an event comes to.
 fn take_call(
     alloc: Global,
-    settings: &GatewaySettings,
-    exchange: &Exchange,
-    opening: bool,
-    before: &Sockets,
-    called: Result<Sockets, CallFault>,
-) -> Result<Taken, AllocError>
-    requires source { HasSourceOfFamily settings.now }
-    requires at { IsAtMoment exchange.now before.now }
-    requires one_call { IfOk called (λ after. IsOneCallAfter before.now.sockets after.sockets) }
-    ensures taken { ForHistory before.now (λ history. (call : SocketCall) → is_opening call ≡ opening
-        → AnswersCall exchange.now.moment history call called
-        → IfOk result (IsTakenCall settings.now exchange.now history call)) }
-    ensures short { IfOk result (λ taken. AreShort taken.step.sends) }
+    here: &Situation<'_>,
+    event: &GatewayEvent,
+) -> Result<(Reply, Option<Sockets>), AllocError>
+    requires { IsEventOf here.now.settings event.now }
+    ensures { ForHistory here.now.sockets.now (λ history. IfSome (call_in event.now) (λ call.
+        IfOk result (IsTakenCall here.now.settings here.now.exchange here.now.sockets.now history call))) }
 {
-    let after = match called {
+    let after = match make_call(alloc, here, event) {
         Ok(after) => after,
-        Err(CallFault::Refused(refusal)) => {
+        Err(fault) => {
+            let Some(refusal) = refusal_in(fault) else {
+                return Err(AllocError);
+            };
             let outcome = GatewayOutcome::SocketRefused(refusal);
-            return Ok(Taken::kept(Reply::quiet(alloc, outcome, *exchange)));
+            return Ok((Reply::quiet(alloc, outcome, here.exchange), None));
         }
-        Err(CallFault::Memory) => return Err(AllocError),
     };
-    let reply = answer_accepted(alloc, settings, exchange, opening, before, &after)?;
-    Ok(Taken {
-        step: reply.step,
-        next: reply.next,
-        sockets: Some(after),
-    })
+    let reply = answer_accepted(alloc, here, is_opening(event), &after)?;
+    Ok((reply, Some(after)))
 }
 
 /// What an event comes to.
 pub fn answer_event(
     alloc: Global,
-    settings: &GatewaySettings,
-    exchange: &Exchange,
-    sockets: &Sockets,
+    here: &Situation<'_>,
     event: &GatewayEvent,
-) -> Result<Taken, AllocError>
-    requires source { HasSourceOfFamily settings.now }
-    requires at { IsAtMoment exchange.now sockets.now }
-    requires of_settings { AreOfSettings settings.now sockets.now }
-    requires event { IsEventOf settings.now event.now }
-    ensures taken { ForHistory sockets.now (λ history.
-        IfOk result (IsTaken settings.now exchange.now history event.now)) }
-    ensures short { IfOk result (λ taken. AreShort taken.step.sends) }
+) -> Result<(Reply, Option<Sockets>), AllocError>
+    requires { IsEventOf here.now.settings event.now }
+    ensures taken { ForHistory here.now.sockets.now (λ history. IfOk result
+        (IsTaken here.now.settings here.now.exchange here.now.sockets.now history event.now)) }
 
     // A nonce takes no memory.
     ensures sure { IsDraw event.now → IsOk result }
-    ensures needs_none { ForHistory sockets.now (λ history. NeedsNoMemory event.now
-        (event_answer settings.now exchange.now history event.now).outcome → IsOk result) }
+    ensures needs_none { ForHistory here.now.sockets.now (λ history. NeedsNoMemory event.now
+        (event_answer here.now.settings here.now.exchange history event.now).outcome → IsOk result) }
 {
-    let at = &exchange.moment;
     match event {
         GatewayEvent::Moment(at) => {
-            let moved = exchange.moved(at);
-            let reply = answer_at(alloc, settings, &moved, sockets)?;
-            Ok(Taken::kept(reply))
+            let moved = Situation {
+                settings: here.settings,
+                exchange: here.exchange.moved(at),
+                sockets: here.sockets,
+            };
+            let reply = answer_at(alloc, &moved)?;
+            Ok((reply, None))
         }
         GatewayEvent::Nonce(nonce) => {
-            let next = exchange.with_next_nonce(*nonce);
-            Ok(Taken::kept(Reply::quiet(alloc, GatewayOutcome::Drawn, next)))
+            let next = here.exchange.with_next_nonce(*nonce);
+            Ok((Reply::quiet(alloc, GatewayOutcome::Drawn, next), None))
         }
         GatewayEvent::Datagram { from, bytes } => {
-            let bytes = bytes.as_slice();
-            let reply = take_datagram(alloc, settings, exchange, sockets, from, bytes)?;
-            Ok(Taken::kept(reply))
+            let reply = take_datagram(alloc, here, from, bytes.as_slice())?;
+            Ok((reply, None))
         }
-        GatewayEvent::Open {
-            name,
-            group,
-            filter,
-        } => {
-            let called = open_socket(alloc, sockets, at, name.as_slice(), group, filter);
-            take_call(alloc, settings, exchange, true, sockets, called)
-        }
-        GatewayEvent::Change { name, filter } => {
-            let called = change_socket(alloc, sockets, at, name.as_slice(), filter);
-            take_call(alloc, settings, exchange, false, sockets, called)
-        }
-        GatewayEvent::Close { name } => {
-            let called = close_socket(alloc, sockets, at, name.as_slice());
-            take_call(alloc, settings, exchange, false, sockets, called)
-        }
-        GatewayEvent::LeaveAll => {
-            let called = leave_all(alloc, sockets, at);
-            take_call(alloc, settings, exchange, false, sockets, called)
-        }
+        GatewayEvent::Open { .. }
+        | GatewayEvent::Change { .. }
+        | GatewayEvent::Close { .. }
+        | GatewayEvent::LeaveAll => take_call(alloc, here, event),
     }
 }

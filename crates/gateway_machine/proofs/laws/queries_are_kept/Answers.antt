@@ -1,5 +1,5 @@
+use Rattle.gateway_machine.proofs.SoundRuns.{run-sound}
 use Rattle.gateway_machine.proofs.laws.queries_are_kept.Goals as goal
-use Rattle.gateway_machine.proofs.SoundRuns.{query-is-kept}
 
 pub returns : goal.returns
-returns c = query-is-kept
+returns c settings first events = (run-sound settings first events).query

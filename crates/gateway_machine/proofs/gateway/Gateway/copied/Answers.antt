@@ -1,6 +1,6 @@
-use Rattle.std.proofs.Common.{sym, subst}
+use Rattle.std.proofs.Common.{refl, sym, subst}
 use Rattle.socket_merge.specs.Sockets.{SocketsValue}
-use Rattle.gateway_machine.{specs.State.{AreOfSettings, HasHistory, IsAtMoment}, proofs.Onward.{same_sockets}}
+use Rattle.gateway_machine.{specs.State.{AreOfSettings, HasHistory, IsAtMoment}, proofs.Onward.{same_gateway}}
 use Rattle.gateway_machine.proofs.gateway.Gateway.copied.Goals as goal
 
 pub invariant_of-result : goal.invariant_of-result
@@ -14,4 +14,4 @@ invariant_of-result c =
     }
 
 pub returns : goal.returns
-returns c = same_sockets c.args.self.now c.in_ok-sockets.sockets _ _ _ _ c.in_ok-sockets.ensures
+returns c = same_gateway c.args.self.now _ c.in_ok-sockets.sockets _ _ _ _ refl c.in_ok-sockets.ensures
