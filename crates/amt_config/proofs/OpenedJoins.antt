@@ -4,7 +4,7 @@ use Rattle.std.{proofs.lemmas.List.{Elements.{All-cons, All-nil, All-same}, Sums
 use Rattle.amt_values.{specs.{declared.address.Ip.{Ip}, Group.{is_forwardable}}, proofs.ConditionLaws.{NoneHolds-of}}
 use Rattle.group_records.specs.{declared.family.Family.{Family}, Written.{is_of_family}}
 use Rattle.source_filter.specs.Filter.{ascending_sources}
-use Rattle.socket_merge.{specs.{History.{AcceptedCall, Socket, open_sockets}, Refusal.{conditions_of, raw_sources, refusal_of}, Sockets.{AreOfGroup, ForHistory, SocketsHold, SocketsValue}, Interface.{on_group}}, proofs.{Amounts.{listing, own_part, part, sum_by-on_group}, RawOctets.{family_is}, Wanted.{All-ascending}}}
+use Rattle.socket_merge.{specs.{History.{AcceptedCall, open_sockets}, declared.stored.Socket.{Socket}, Refusal.{conditions_of, raw_sources, refusal_of}, Sockets.{AreOfGroup, ForHistory, SocketsHold, SocketsValue}, Interface.{on_group}}, proofs.{Amounts.{listing, own_part, part, sum_by-on_group}, RawOctets.{family_is}, Wanted.{All-ascending}}}
 use Rattle.gateway_script.specs.Says.{AreAddressTexts}
 use Rattle.toml.specs.Data.{Members}
 use Rattle.amt_config.specs.{declared.{config.Join.{Join}, fault.ConfigFault.{ConfigFault, TheVariants.{Range, Memory}}}, Join.{AreJoins, FailsInJoins, JoinOf, MayOpen, call_of, in_join, join_keys, with_join}, Reading.{IsRefusedAfter}, Table.{IsFirstFault}}

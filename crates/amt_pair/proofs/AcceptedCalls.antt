@@ -4,7 +4,7 @@ use Rattle.std.proofs.Common.{◌≡◌, ℕ, max, Bool, true, false, List, [], 
 use Rattle.amt_values.specs.{Conditions.{Conditions, first_holding}, Group.{is_forwardable}}
 use Rattle.source_filter.specs.Filter.{FilterValue}
 use Rattle.group_records.specs.{Written.{is_of_family}, declared.family.Family.{Family}}
-use Rattle.socket_merge.specs.{History.{AcceptedCall, Socket, SocketCall, Change, Close, LeaveAll, Open, latest, open_sockets, socket_named, with_call}, Refusal.{change_conditions, conditions_of, refusal_of}, declared.fault.SocketFault.{SocketFault}}
+use Rattle.socket_merge.specs.{History.{AcceptedCall, SocketCall, Change, Close, LeaveAll, Open, latest, open_sockets, socket_named, with_call}, declared.stored.Socket.{Socket}, Refusal.{change_conditions, conditions_of, refusal_of}, declared.fault.SocketFault.{SocketFault}}
 use Rattle.gateway_machine.specs.Refusals.{refusal_by, refusal_in}
 
 -- the sources of the filter are of the family

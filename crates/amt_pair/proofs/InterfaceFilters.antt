@@ -4,7 +4,7 @@ use Rattle.std.{proofs.{Common.{◌≡◌, not, false, List, [], ◌∷◌, ◌+
 use Rattle.amt_values.{specs.{Order.{ip_order}, declared.address.Ip.{Ip}, Ascending.{IsAscending, has, intersection}}, proofs.{Orders.{ip_order-total}, AscendingLaws.{IsAscending-ascending, IsAscending-filter, has-append}}}
 use Rattle.source_filter.{specs.{Changes.{changes_on}, Filter.{FilterValue, nothing}, Merging.{all_sources, common_sources, exclude_list, exclude_lists, include_lists, intersection_of, merged, merged_by, union_of}, declared.mode.Mode.{Mode, TheVariants.{Include, Exclude}}}, proofs.AppliedChanges.{changes-applied}}
 use Rattle.group_records.specs.declared.family.Family.{Family}
-use Rattle.socket_merge.{specs.{History.{AcceptedCall, Socket, group_opened, groups_opened, open_sockets}, Interface.{filters_on, interface, on_group, same_group}}, proofs.{ByGroup.{unwanted}, ShortChanges.{changes-itself as changes-same}}}
+use Rattle.socket_merge.{specs.{History.{AcceptedCall, group_opened, groups_opened, open_sockets}, declared.stored.Socket.{Socket}, Interface.{filters_on, interface, on_group, same_group}}, proofs.{ByGroup.{unwanted}, ShortChanges.{changes-itself as changes-same}}}
 use Rattle.amt_pair.proofs.{AcceptedCalls.{AreAccepted}, MadeGood.{unwanted-nothing}, OpenSockets.{HaveFilters, IsFilterOf, IsSocketOf, sockets-of}}
 
 -- ---- merged filters ascend

@@ -4,7 +4,7 @@ use Rattle.std.{proofs.{Common.{◌≡◌, ℕ, ◌≤◌, Bool, true, false, no
 use Rattle.amt_values.specs.{declared.address.Ip.{Ip}, Order.{ip_order}, Ascending.{has}}
 use Rattle.source_filter.specs.{Filter.{FilterValue}, declared.record.Record.{Record}}
 use Rattle.group_records.specs.{declared.family.Family.{Family}, Written.{is_of_family, report_length}}
-use Rattle.socket_merge.specs.{Changes.{change_records}, FullReport.{full_report_of}, History.{AcceptedCall, Change, Close, LeaveAll, Open, Socket, SocketCall, latest, open_sockets, refiltered, same_name, sockets_after}, Interface.{same_group}, Kept.{IsLawful}, Refusal.{family_of}}
+use Rattle.socket_merge.specs.{Changes.{change_records}, FullReport.{full_report_of}, History.{AcceptedCall, Change, Close, LeaveAll, Open, SocketCall, latest, open_sockets, refiltered, same_name, sockets_after}, declared.stored.Socket.{Socket}, Interface.{same_group}, Kept.{IsLawful}, Refusal.{family_of}}
 use Rattle.socket_merge.proofs.{Amounts.{has_name, some_is, with_filter}, Changed.{changes-are}, Lawful.{IsLawful-next, IsLawful-none, MayCall as MayBeMade}, RawOctets.{family_is}, Reports.{full-within_raw}, ShortChanges.{short-changes}, Wanted.{same_group-exact}}
 use Rattle.amt_pair.proofs.AcceptedCalls.{AreAccepted, MayCall}
 

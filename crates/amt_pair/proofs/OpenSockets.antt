@@ -3,7 +3,7 @@ use Rattle.std.{proofs.{Common.{◌≡◌, not, Bool, true, false, List, [], ◌
 use Rattle.amt_values.specs.{Group.{is_forwardable}, declared.address.Ip.{Ip}}
 use Rattle.source_filter.specs.Filter.{FilterValue}
 use Rattle.group_records.specs.{Written.{is_of_family}, declared.family.Family.{Family}}
-use Rattle.socket_merge.specs.History.{AcceptedCall, Change, Close, LeaveAll, Open, Socket, SocketCall, group_opened, groups_opened, open_sockets, refiltered, same_name, sockets_after}
+use Rattle.socket_merge.specs.{History.{AcceptedCall, Change, Close, LeaveAll, Open, SocketCall, group_opened, groups_opened, open_sockets, refiltered, same_name, sockets_after}, declared.stored.Socket.{Socket}}
 use Rattle.amt_pair.{specs.Events.{IsFilter}, proofs.AcceptedCalls.{AreAccepted, HasSourcesOf, MayCall}}
 
 -- the filter of the call, if it has one, is one

@@ -3,7 +3,7 @@ use Rattle.std.proofs.{Common.{◌≡◌, ◌≤◌, ℕ, true, List, [], ◌∷
 use Rattle.std.specs.Prelude.{unwrap_or}
 use mathlib.Core.{HLevel.{is_prop→PathP}, Sum.{⊎_set}}
 use Rattle.group_records.specs.Written.{is_of_family}
-use Rattle.socket_merge.specs.{History.{AcceptedCall, Socket, latest}, Sockets.{SocketsHold, SocketsValue}}
+use Rattle.socket_merge.specs.{History.{AcceptedCall, latest}, declared.stored.Socket.{Socket}, Sockets.{SocketsHold, SocketsValue}}
 use Rattle.gateway_machine.specs.{declared.{event.GatewayEvent.{GatewayEvent}, exchange.Exchange.{Exchange}, gateway.Gateway.{Gateway}, outcome.GatewayOutcome.{GatewayOutcome}, reply.Reply.{Reply}, settings.GatewaySettings.{GatewaySettings}}, Answers.{event_answer, history_after}, Events.{IsEventOf}, Exchange.{start}, Outcomes.{IsRefused}}
 use Rattle.gateway_machine.{specs.{Runs.{GatewayAt, Run, answer_after, run_of, settings_of, with_event}, Settings.{HasSourceOfFamily, family_of}, State.{AreOfSettings, HasHistory, IsAtMoment}, Taken.{IsTaken, IsTakenAs}}, proofs.{Runs.{run_of-append, run_of-nil}, Steady.{early-after, family-after, moment-later, refused-same}}}
 

@@ -2,7 +2,7 @@
 use Rattle.std.{proofs.{Common.{◌≡◌, ℕ, Bool, true, List, [], ◌∷◌, Option, Some, subst}, lemmas.{Bool.{cond_both}, List.Elements.{All-head, All-tail}}}, specs.{List.{All, find}, Prelude.{IfSome}}}
 use Rattle.source_filter.specs.Filter.{FilterValue}
 use Rattle.group_records.specs.{declared.family.Family.{Family}, Written.{is_of_family}}
-use Rattle.socket_merge.{specs.{History.{Socket, same_name, socket_named}, Sockets.{AreOfGroup}}, proofs.RawOctets.{family_is}}
+use Rattle.socket_merge.{specs.{History.{same_name, socket_named}, declared.stored.Socket.{Socket}, Sockets.{AreOfGroup}}, proofs.RawOctets.{family_is}}
 
 -- the socket's group is of this family
 abbrev IsOf : Family → Socket → Type 0

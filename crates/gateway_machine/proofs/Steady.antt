@@ -2,7 +2,7 @@
 -- nothing, and no call is later than the exchange's moment or opens a socket of the other family.
 use Rattle.std.proofs.{Common.{◌≡◌, ◌≤◌, ℕ, max, not, true, List, [], ◌∷◌, All, Option, Some, None, refl, subst, arith}, lemmas.{Bool.{cond_both}, List.Elements.{All-append, All-cons, All-filter, All-map, All-nil, All-weaker}}}
 use Rattle.group_records.specs.{Written.{is_of_family}, declared.family.Family.{Family}}
-use Rattle.socket_merge.specs.History.{AcceptedCall, Change, Close, LeaveAll, Open, Socket, SocketCall, latest, open_sockets, refiltered, same_name, with_call}
+use Rattle.socket_merge.specs.{History.{AcceptedCall, Change, Close, LeaveAll, Open, SocketCall, latest, open_sockets, refiltered, same_name, with_call}, declared.stored.Socket.{Socket}}
 use Rattle.gateway_machine.specs.declared.{event.GatewayEvent.{GatewayEvent, TheVariants.{Open as Opens}}, exchange.Exchange.{Exchange}, outcome.SocketRefusal.{SocketRefusal}, settings.GatewaySettings.{GatewaySettings}}
 use Rattle.gateway_machine.{specs.{Answers.{call_in, event_answer, history_after, history_by, if_accepted, refusal_at}, Events.{IsEventOf}, Outcomes.{IsRefused}, Settings.{family_of}}, proofs.Lawful.{IsLawful, event-lawful}}
 

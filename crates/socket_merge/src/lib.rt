@@ -21,3 +21,4 @@ mod stored;
 pub use fault::{NoSocket, SocketFault};
 pub use laws::changes_are_those_of_calls;
 pub use sockets::Sockets;
+pub use stored::Socket;

@@ -1,11 +1,11 @@
 //! The sockets of a host.
 
-ghost use Rattle.std.specs.Prelude.{◌≡◌, ℕ, ◌≤◌, ◌↔◌, [], ◌∷◌, ◌++◌, true, false, None, length, All, IfOk, OnOk, OnErr, IsErr, Some};
+ghost use Rattle.std.specs.Prelude.{◌≡◌, ℕ, ◌≤◌, ◌↔◌, [], ◌∷◌, ◌++◌, true, false, length, All, IfOk, OnOk, OnErr, IsErr, Some};
 ghost use Rattle.std.specs.Map.{keys_of};
 ghost use Rattle.amt_values.specs.{Ascending.{IsAscending}, Group.{is_forwardable}, Order.{ip_order}, declared.address.Ip.{Ip}};
 ghost use Rattle.source_filter.specs.Filter.{admits};
 ghost use Rattle.group_records.specs.Written.{IsOfFamily, report_length};
-ghost use Rattle.socket_merge.specs.{Changes.{IsOneCallAfter, changes_between}, FullReport.{family_by, full_report_of, is_quiet}, History.{Change, Close, LeaveAll, Open, moment_read, socket_named, sockets_after, with_call}, Interface.{interface, wants}};
+ghost use Rattle.socket_merge.specs.{Changes.{IsOneCallAfter, changes_between}, FullReport.{family_by, full_report_of, is_quiet}, History.{Change, Close, LeaveAll, Open, moment_read, sockets_after, with_call}, Interface.{interface, wants}};
 ghost use Rattle.socket_merge.specs.{Kept.{HasSlot, kept_at, left_after, some_wants}, Refusal.{FillsNoMore, IsWithinLimits, is_open, raw_report_length, refusal_of}, Sockets.{AnswersRefusal, AreOfGroup, AreOfSocket, ForHistory, HasNoOldFarewell, KeepsFarewells, SocketsHold}};
 
 use crate::changes::changes_between;
