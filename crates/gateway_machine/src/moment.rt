@@ -51,10 +51,8 @@ pub fn answer_at(alloc: Global, here: &Situation<'_>) -> Result<Reply, AllocErro
     if rests(exchange) {
         return Ok(Reply::quiet(alloc, GatewayOutcome::Quiet, *exchange));
     }
-    if here
-        .sockets
-        .quiet(&exchange.moment, farewell_ms(exchange.query))
-    {
+    let keep_ms = farewell_ms(exchange.query);
+    if here.sockets.quiet(&exchange.moment, keep_ms) {
         return Ok(Reply::quiet(alloc, GatewayOutcome::Idle, exchange.idle()));
     }
     answer_due(alloc, &here.settings, exchange)
