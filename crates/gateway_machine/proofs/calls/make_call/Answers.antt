@@ -1,5 +1,5 @@
 use Rattle.std.proofs.Common.{◌≡◌, List, refl, sym, ap, ◌∙◌, inl}
-use Rattle.socket_merge.specs.{Changes.{IsOneCallAfter}, History.{Change, Close, Open, Socket, SocketCall, sockets_after}, Sockets.{SocketsHold, SocketsValue}}
+use Rattle.socket_merge.specs.{declared.stored.Socket.{Socket}, Changes.{IsOneCallAfter}, History.{Change, Close, Open, SocketCall, sockets_after}, Sockets.{SocketsHold, SocketsValue}}
 use Rattle.gateway_machine.{specs.Settings.{family_of}, proofs.{CallRefusals.{close-accepted, close-refused, leave_all-accepted}, OwnSockets.{filter-of_socket}}}
 use Rattle.gateway_machine.proofs.calls.make_call.Goals as goal
 
