@@ -1,7 +1,7 @@
 -- A relay's table has one configuration, or one first fault.
 use Rattle.std.proofs.Common.{◌≡◌, ◌⊎◌, ◌≤◌, ◌<◌, ◌*◌, ℕ, true, List, codes, inl, inr, sym, subst, ap, ◌∙◌, arith}
 use Rattle.amt_values.{specs.{declared.address.Ip.TheVariants.{V4, V6}, Text.{IsIpText, IsPeerText}, Conditions.{First}}, proofs.Unique.{IsIpText-unique, IsPeerText-unique}}
-use Rattle.relay_machine.specs.{declared.number_key.{NumberKey.{NumberKey, TheVariants.{Robustness, QuerySeconds, ResponseTenths, Endpoints, Groups, Sources, PacketLimit}}, NumberRange.{NumberRange}}, Settings.{AreLawfulSettings, HasCode, IsInKeyRange, number_at, number_row}}
+use Rattle.relay_machine.specs.{declared.number_key.{NumberKey.{NumberKey, TheVariants.{Robustness, QuerySeconds, ResponseTenths, Secrets, Endpoints, Groups, Sources, PacketLimit}}, NumberRange.{NumberRange}}, Settings.{AreLawfulSettings, HasCode, IsInKeyRange, number_at, number_row}}
 use Rattle.script_lines.{proofs.Firsts.{First-holds, First-unique}, specs.Form.{a_peer, an_address, an_address4, an_address6}}
 use Rattle.amt_script.specs.declared.kind.Key.TheVariants as words
 use Rattle.amt_script.specs.Row.{key_word, number_word}
@@ -34,6 +34,7 @@ same_values table one other h k =
       sources = numbers Sources i;
       packet_limit = numbers PacketLimit i;
       rotate_seconds = same_number (codes "rotate_seconds") rotate_range table _ _ h.rotate k.rotate i;
+      secrets = numbers Secrets i;
       workers = same_number (codes "workers") workers_range table _ _ h.workers k.workers i;
     }
 
@@ -48,7 +49,8 @@ right_keys table config h =
     (also (right_text_or an_address6 (IsIpText (V6 config.query6)) (λ text names fails. fails config.query6 names) (key_word words.Query6) table _ h.query6)
     (also (number Robustness) (also (number QuerySeconds) (also (number ResponseTenths) (also (number Endpoints) (also (number Groups) (also (number Sources) (also (number PacketLimit)
     (also (right_number (codes "rotate_seconds") rotate_range table config.rotate_seconds h.rotate)
-    (also (right_number (codes "workers") workers_range table config.workers h.workers) tt)))))))))))))
+    (also (number Secrets)
+    (also (right_number (codes "workers") workers_range table config.workers h.workers) tt))))))))))))))
 
 -- numbers that fail together aren't lawful
 more_than : (a b : ℕ) → a ≤ b → b < a → ⊥
@@ -82,6 +84,7 @@ default_in_range : (key : NumberKey) → IsInKeyRange key (number_row key).defau
 default_in_range Robustness = record { least = omega arith; most = omega arith }
 default_in_range QuerySeconds = record { least = omega arith; most = omega arith }
 default_in_range ResponseTenths = record { least = omega arith; most = omega arith }
+default_in_range Secrets = record { least = omega arith; most = omega arith }
 default_in_range Endpoints = record { least = omega arith; most = omega arith }
 default_in_range Groups = record { least = omega arith; most = omega arith }
 default_in_range Sources = record { least = omega arith; most = omega arith }

@@ -1,7 +1,7 @@
 -- The settings file of a relay.
 use Rattle.std.specs.Prelude.{◌≡◌, ◌*◌, ◌<◌, ℕ, List, [], ◌∷◌, codes}
 use Rattle.amt_values.specs.{declared.address.Ip.TheVariants.{V4, V6}, Text.{IsIpText, IsPeerText}, Conditions.{First}}
-use Rattle.relay_machine.specs.{declared.{number_key.{NumberKey.{NumberKey, TheVariants.{Robustness, QuerySeconds, ResponseTenths, Endpoints, Groups, Sources, PacketLimit}}, NumberRange.{NumberRange}}, settings.Settings.{Settings}}, Settings.{AreLawfulSettings, HasCode, HasMldCode, default_settings, number_at, number_row}}
+use Rattle.relay_machine.specs.{declared.{number_key.{NumberKey.{NumberKey, TheVariants.{Robustness, QuerySeconds, ResponseTenths, Secrets, Endpoints, Groups, Sources, PacketLimit}}, NumberRange.{NumberRange}}, settings.Settings.{Settings}}, Settings.{AreLawfulSettings, HasCode, HasMldCode, default_settings, number_at, number_row}}
 use Rattle.script_lines.specs.Form.{a_peer, an_address, an_address4, an_address6}
 use Rattle.amt_script.specs.declared.kind.Key.TheVariants as words
 use Rattle.amt_script.specs.Row.{key_word, number_word}
@@ -41,6 +41,7 @@ relay_keys =
     ∷ number_key Sources
     ∷ number_key PacketLimit
     ∷ optional (codes "rotate_seconds") (a_whole rotate_range)
+    ∷ number_key Secrets
     ∷ optional (codes "workers") (a_whole workers_range)
     ∷ []
 
@@ -53,6 +54,7 @@ settings_of config = record {
   robustness = config.robustness;
   query_seconds = config.query_seconds;
   response_tenths = config.response_tenths;
+  secrets = config.secrets;
   limits = record { endpoints = config.endpoints; groups = config.groups; sources = config.sources };
   packet_limit = config.packet_limit;
 }

@@ -30,6 +30,8 @@ pub struct RelayConfig {
     pub packet_limit: u32,
     /// The seconds from one secret to the next.
     pub rotate_seconds: u32,
+    /// How many of the newest secrets' response MACs the relay accepts.
+    pub secrets: u32,
     /// The threads that copy packets; with 0 the relay's own thread does.
     pub workers: u32,
 }
@@ -46,6 +48,7 @@ impl RelayConfig {
             robustness: self.robustness,
             query_seconds: self.query_seconds,
             response_tenths: self.response_tenths,
+            secrets: self.secrets,
             limits: Limits {
                 endpoints: self.endpoints,
                 groups: self.groups,

@@ -61,6 +61,7 @@ fn read_values(alloc: Global, table: &Table) -> Result<RelayConfig, ConfigFault>
         sources: number_of(alloc, table, NumberKey::Sources)?,
         packet_limit: number_of(alloc, table, NumberKey::PacketLimit)?,
         rotate_seconds: number_at(alloc, table, FileKey::RotateSeconds, ROTATE_SECONDS)?,
+        secrets: number_of(alloc, table, NumberKey::Secrets)?,
         workers: number_at(alloc, table, FileKey::Workers, WORKERS)?,
     })
 }

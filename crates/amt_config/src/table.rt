@@ -41,7 +41,7 @@ fn is_relay_key(name: &str) -> bool
         "relay" | "listen" | "feed" | "query4" | "query6" => true,
         "robustness" | "query_seconds" | "response_tenths" => true,
         "endpoints" | "groups" | "sources" | "packet_limit" => true,
-        "rotate_seconds" | "workers" => true,
+        "rotate_seconds" | "secrets" | "workers" => true,
         _ => false,
     }
 }

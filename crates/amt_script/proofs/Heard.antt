@@ -1,6 +1,7 @@
 -- The settings and items that have been said, one line more.
 use Rattle.std.{proofs.{Common.{ℕ, List, [], ◌∷◌, ◌++◌, sym, ap, subst, ◌∙◌, append-nil}, lemmas.List.Elements.{filter_map-append}}, specs.List.{AllByRecursion}}
-use Rattle.amt_script.specs.{declared.{line.RelayStatement.{RelayStatement}, script.RelayItem.{RelayItem}, setting.Setting.{Setting}}, Reading.{AreThose, IsAllowed}, Says.{SaysSetting}, Script.{SaysAfter, setting_in, item_in, settings_in, items_in}}
+use Rattle.script_lines.specs.{Reading.{FailsFirst}, declared.fault.LineError.{LineError}}
+use Rattle.amt_script.specs.{declared.{line.RelayStatement.{RelayStatement}, script.RelayItem.{RelayItem}, setting.Setting.{Setting}}, Fault.{FailsAfter, order_of_reasons}, Reading.{AreThose, IsAllowed}, Says.{SaysSetting}, Script.{SaysAfter, setting_in, item_in, settings_in, items_in}}
 use Rattle.amt_script.specs.declared.line.RelayStatement.TheVariants as statements
 use Rattle.amt_script.specs.declared.setting.Setting.TheVariants as settings
 
@@ -10,6 +11,13 @@ pub says_after : (given : List Setting) (items : List RelayItem) (past : List Re
 says_after given items past one line those says =
     subst (λ (i : List RelayItem). SaysAfter (settings_in past) i one line) those.items_are
     (subst (λ (g : List Setting). SaysAfter g items one line) those.settings_are says)
+
+-- and what is wrong with it
+pub fails_after : (given : List Setting) (items : List RelayItem) (past : List RelayStatement) (line : List (List ℕ)) (error : LineError) → AreThose given items past
+    → FailsFirst (FailsAfter given items line) order_of_reasons error → FailsFirst (FailsAfter (settings_in past) (items_in past) line) order_of_reasons error
+fails_after given items past line error those fails =
+    subst (λ (i : List RelayItem). FailsFirst (FailsAfter (settings_in past) i line) order_of_reasons error) those.items_are
+    (subst (λ (g : List Setting). FailsFirst (FailsAfter g items line) order_of_reasons error) those.settings_are fails)
 
 -- a line says a number in its key's range
 pub allowed_by_line : (setting : Setting) (line : List (List ℕ)) → SaysSetting setting line → IsAllowed setting

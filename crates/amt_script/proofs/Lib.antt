@@ -2,6 +2,8 @@ pub mod Failures
 pub mod Heard
 pub mod Judging
 pub mod Lawful
+pub mod LimitLines
+pub mod OtherLines
 pub mod Printed
 pub mod RowLines
 mod Rows

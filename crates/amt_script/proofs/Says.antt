@@ -1,9 +1,9 @@
 -- What a line says fits the kind of the line.
-use Rattle.std.proofs.Common.{◌≡◌, ℕ, List, [], ◌∷◌, ◌++◌, sym, ◌∙◌}
+use Rattle.std.proofs.Common.{◌≡◌, ℕ, List, [], ◌∷◌, ◌++◌, sym, ◌∙◌, arith}
 use Rattle.relay_machine.specs.{declared.event.Event.{Event}, Settings.{number_row}}
 use Rattle.relay_machine.specs.declared.event.Event.TheVariants as events
-use Rattle.script_lines.{specs.{declared.reason.Reason.{Reason}, Form.{a_moment, a_number, some_octets, a_secret, an_address, an_address4, an_address6, a_peer}}, proofs.Forms.{moment_fits, number_fits, octets_fit, secret_fits, address_fits, address4_fits, address6_fits, peer_fits, none_fits, one_fits, two_fit}}
-use Rattle.amt_script.{specs.{declared.{kind.{Key.{Key}, Kind.{Kind}}, script.RelayItem.{RelayItem}, setting.Setting.{Setting}}, Fault.{FailsAs}, Row.{words_of}, Says.{SaysSetting, SaysEvent, SaysItem}, Setting.{key_of}}, proofs.Rows.{most_small, same_kind}}
+use Rattle.script_lines.{specs.{declared.reason.Reason.{Reason}, Form.{Fails, a_moment, a_number, some_octets, a_secret, an_address, an_address4, an_address6, a_peer}}, proofs.Forms.{moment_fits, number_fits, octets_fit, secret_fits, address_fits, address4_fits, address6_fits, peer_fits, none_fits, one_fits, two_fit, three_fit}}
+use Rattle.amt_script.{specs.{declared.{kind.{Key.{Key}, Kind.{Kind}}, script.RelayItem.{RelayItem}, setting.Setting.{Setting}}, Fault.{FailsAs}, Row.{a_limit, words_of}, Says.{IsLimitText, SaysSetting, SaysEvent, SaysItem}, Setting.{key_of}}, proofs.Rows.{most_small, same_kind}}
 use Rattle.amt_script.specs.declared.kind.Kind.TheVariants as kinds
 use Rattle.amt_script.specs.declared.script.RelayItem.TheVariants as items
 use Rattle.amt_script.specs.declared.setting.Setting.TheVariants as settings
@@ -19,6 +19,7 @@ kind_of_event (events.Moment ms) = kinds.Moment
 kind_of_event (events.Datagram bytes from) = kinds.Datagram
 kind_of_event (events.Packet bytes) = kinds.Packet
 kind_of_event (events.Rotate secret) = kinds.Secret
+kind_of_event (events.Limits limits) = kinds.Limits
 
 pub setting_is_fit : (setting : Setting) (line : List (List ℕ)) → SaysSetting setting line → IsFit (kinds.Set (key_of setting)) line
 setting_is_fit (settings.Relay ip) line says = record {
@@ -49,7 +50,10 @@ setting_is_fit (settings.Secret secret) line says = record {
   fits = one_fits a_secret says.text (secret_fits secret says.text says.names);
 }
 
-event_is_fit : (event : Event) (line : List (List ℕ)) → SaysEvent event line → IsFit (kind_of_event event) line
+limit_fits : (limit : ℕ) (text : List ℕ) → IsLimitText limit text → (reason : Reason) → Fails a_limit text reason → ⊥
+limit_fits limit text names = number_fits 1 4294967295 limit text (omega arith) names
+
+pub event_is_fit : (event : Event) (line : List (List ℕ)) → SaysEvent event line → IsFit (kind_of_event event) line
 event_is_fit (events.Moment ms) line says = record {
   values = says.text ∷ [];
   parts = says.parts;
@@ -70,6 +74,13 @@ event_is_fit (events.Rotate secret) line says = record {
   parts = says.parts;
   fits = one_fits a_secret says.text (secret_fits secret says.text says.names);
 }
+event_is_fit (events.Limits limits) line says = record {
+  values = says.text ∷ says.next ∷ says.last ∷ [];
+  parts = says.parts;
+  fits =
+      three_fit a_limit a_limit a_limit says.text says.next says.last (limit_fits limits.endpoints says.text says.names)
+      (limit_fits limits.groups says.next says.names_next) (limit_fits limits.sources says.last says.names_last);
+}
 
 abbrev pub kind_of_item : RelayItem → Kind
 kind_of_item (items.Event event) = kind_of_event event
@@ -84,6 +95,7 @@ no_set_item (items.Event (events.Moment ms)) key same = cc same
 no_set_item (items.Event (events.Datagram bytes from)) key same = cc same
 no_set_item (items.Event (events.Packet bytes)) key same = cc same
 no_set_item (items.Event (events.Rotate secret)) key same = cc same
+no_set_item (items.Event (events.Limits limits)) key same = cc same
 no_set_item items.Show key same = cc same
 
 -- no line says a setting and an item

@@ -1,12 +1,13 @@
 -- A line says one thing.
-use Rattle.std.proofs.Common.{◌≡◌, ℕ, List, refl, sym, subst, ap, ◌∙◌}
+use Rattle.std.proofs.Common.{◌≡◌, ℕ, List, refl, sym, subst, ap, ◌∙◌, arith}
 use Rattle.amt_values.{specs.{declared.{address.Ip.{Ip, TheVariants.{V4, V6}}, peer.Peer.{Peer}}, Text.{IsIpText, IsPeerText}}, proofs.Unique.{IsIpText-unique, IsPeerText-unique}}
+use Rattle.endpoint_membership.specs.declared.limits.Limits.{Limits}
 use Rattle.response_mac.specs.declared.secret.Secret.{Secret}
 use Rattle.relay_machine.specs.{declared.{event.Event.{Event}, number_key.NumberKey.{NumberKey}}, Settings.{number_row}}
 use Rattle.relay_machine.specs.declared.event.Event.TheVariants as events
 use Rattle.script_lines.{specs.Form.{IsMomentText, IsNumberText, IsHexText, IsSecretText}, proofs.Forms.{IsHexText-unique, IsSecretText-unique, IsMomentText-unique, IsNumberText-unique, address4, address6, one_field}}
 use Rattle.amt_script.specs.declared.kind.Kind.TheVariants as kinds
-use Rattle.amt_script.{specs.{declared.{script.RelayItem.{RelayItem}, setting.Setting.{Setting}}, Says.{SaysSetting, SaysEvent, SaysItem}, Setting.{key_of}}, proofs.{Rows.{most_small, same_kind}, Says.{kind_of_event, kind_of_item, setting_is_fit, item_is_fit}}}
+use Rattle.amt_script.{specs.{declared.{script.RelayItem.{RelayItem}, setting.Setting.{Setting}}, Says.{IsLimitText, SaysSetting, SaysEvent, SaysItem}, Setting.{key_of}}, proofs.{Rows.{most_small, same_kind}, Says.{kind_of_event, kind_of_item, setting_is_fit, item_is_fit}}}
 use Rattle.amt_script.specs.declared.script.RelayItem.TheVariants as items
 use Rattle.amt_script.specs.declared.setting.Setting.TheVariants as settings
 
@@ -50,6 +51,16 @@ SaysSetting-unique one other line h k = SaysSetting-same one other line (set_key
 same_datagram : (from from' : Peer) (bytes bytes' : List ℕ) → from ≡ from' → bytes ≡ bytes' → events.Datagram bytes from ≡ events.Datagram bytes' from'
 same_datagram from from' bytes bytes' same_from same_bytes = rw (same_from, same_bytes) refl
 
+same_limits : (one other : Limits) → one.endpoints ≡ other.endpoints → one.groups ≡ other.groups → one.sources ≡ other.sources → events.Limits one ≡ events.Limits other
+same_limits one other endpoints groups sources = λ i. events.Limits (record { endpoints = endpoints i; groups = groups i; sources = sources i })
+
+IsLimitText-unique : (one other : ℕ) (text : List ℕ) → IsLimitText one text → IsLimitText other text → one ≡ other
+IsLimitText-unique one other text h k = IsNumberText-unique 1 4294967295 one other text (omega arith) h k
+
+-- one text names one limit
+one_limit : (one other : ℕ) (text other_text : List ℕ) → text ≡ other_text → IsLimitText one text → IsLimitText other other_text → one ≡ other
+one_limit one other text other_text same h k = IsLimitText-unique one other other_text (subst (IsLimitText one) same h) k
+
 SaysEvent-same : (one other : Event) (line : List (List ℕ)) → kind_of_event one ≡ kind_of_event other → SaysEvent one line → SaysEvent other line → one ≡ other
 SaysEvent-same (events.Moment x) (events.Moment y) line same h k = ap (λ (v : ℕ). events.Moment v) (one_field _ IsMomentText IsMomentText-unique x y line h k)
 SaysEvent-same (events.Datagram bytes from) (events.Datagram bytes' from') line same h k =
@@ -60,6 +71,14 @@ SaysEvent-same (events.Datagram bytes from) (events.Datagram bytes' from') line 
     (IsHexText-unique bytes bytes' k.next (subst (IsHexText bytes) same_hex h.names_next) k.names_next)
 SaysEvent-same (events.Packet x) (events.Packet y) line same h k = ap (λ (v : List ℕ). events.Packet v) (one_field _ IsHexText IsHexText-unique x y line h k)
 SaysEvent-same (events.Rotate x) (events.Rotate y) line same h k = ap (λ (v : Secret). events.Rotate v) (one_field _ IsSecretText IsSecretText-unique x y line h k)
+SaysEvent-same (events.Limits x) (events.Limits y) line same h k =
+    let parts = sym h.parts ∙ k.parts in
+    let same_first : h.text ≡ k.text = cc in
+    let same_next : h.next ≡ k.next = cc in
+    let same_last : h.last ≡ k.last = cc in
+    same_limits x y (one_limit x.endpoints y.endpoints h.text k.text same_first h.names k.names)
+    (one_limit x.groups y.groups h.next k.next same_next h.names_next k.names_next)
+    (one_limit x.sources y.sources h.last k.last same_last h.names_last k.names_last)
 SaysEvent-same one other line same h k = cc same
 
 SaysItem-same : (one other : RelayItem) (line : List (List ℕ)) → kind_of_item one ≡ kind_of_item other → SaysItem one line → SaysItem other line → one ≡ other
@@ -69,10 +88,12 @@ SaysItem-same (items.Event (events.Moment ms)) items.Show line same h k = cc sam
 SaysItem-same (items.Event (events.Datagram bytes from)) items.Show line same h k = cc same
 SaysItem-same (items.Event (events.Packet bytes)) items.Show line same h k = cc same
 SaysItem-same (items.Event (events.Rotate secret)) items.Show line same h k = cc same
+SaysItem-same (items.Event (events.Limits limits)) items.Show line same h k = cc same
 SaysItem-same items.Show (items.Event (events.Moment ms)) line same h k = cc same
 SaysItem-same items.Show (items.Event (events.Datagram bytes from)) line same h k = cc same
 SaysItem-same items.Show (items.Event (events.Packet bytes)) line same h k = cc same
 SaysItem-same items.Show (items.Event (events.Rotate secret)) line same h k = cc same
+SaysItem-same items.Show (items.Event (events.Limits limits)) line same h k = cc same
 
 pub SaysItem-unique : (one other : RelayItem) (line : List (List ℕ)) → SaysItem one line → SaysItem other line → one ≡ other
 SaysItem-unique one other line h k =

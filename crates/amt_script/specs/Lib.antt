@@ -1,4 +1,5 @@
 pub mod Fault
+pub mod LimitsLine
 pub mod Printed
 pub mod Reading
 pub mod Row

@@ -12,6 +12,7 @@ abbrev pub number_word : NumberKey → List ℕ
 number_word numbers.Robustness = codes "robustness"
 number_word numbers.QuerySeconds = codes "query_seconds"
 number_word numbers.ResponseTenths = codes "response_tenths"
+number_word numbers.Secrets = codes "secrets"
 number_word numbers.Endpoints = codes "endpoints"
 number_word numbers.Groups = codes "groups"
 number_word numbers.Sources = codes "sources"
@@ -30,6 +31,7 @@ abbrev pub words_of : Kind → List (List ℕ)
 words_of (kinds.Set key) = codes "set" ∷ key_word key ∷ []
 words_of kinds.Moment = codes "at" ∷ []
 words_of kinds.Secret = codes "secret" ∷ []
+words_of kinds.Limits = codes "limits" ∷ []
 words_of kinds.Datagram = codes "dg" ∷ []
 words_of kinds.Packet = codes "mc" ∷ []
 words_of kinds.Show = codes "show" ∷ []
@@ -42,11 +44,16 @@ form_of_key keys.Query6 = an_address6
 form_of_key (keys.Number key) = a_number (number_row key).least (number_row key).most
 form_of_key keys.Secret = a_secret
 
+-- a limit of the event: any that isn't 0, whatever limits are set
+abbrev pub a_limit : Form
+a_limit = a_number 1 4294967295
+
 -- what the fields after the first words may be
 abbrev pub forms_of : Kind → List Form
 forms_of (kinds.Set key) = form_of_key key ∷ []
 forms_of kinds.Moment = a_moment ∷ []
 forms_of kinds.Secret = a_secret ∷ []
+forms_of kinds.Limits = a_limit ∷ a_limit ∷ a_limit ∷ []
 forms_of kinds.Datagram = a_peer ∷ some_octets ∷ []
 forms_of kinds.Packet = some_octets ∷ []
 forms_of kinds.Show = []

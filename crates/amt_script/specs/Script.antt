@@ -1,9 +1,12 @@
 -- Relay scripts, as a kind of script.
 use Rattle.std.specs.{Prelude.{◌≡◌, ℕ, List, [], ◌∷◌, Option, Some, None}, List.{filter_map}}
+use Rattle.endpoint_membership.specs.{Limits.{AreWithin}, declared.limits.Limits.{Limits}}
 use Rattle.relay_machine.specs.Settings.{AreLawfulSettings}
+use Rattle.relay_machine.specs.declared.event.Event.TheVariants as events
 use Rattle.script_lines.specs.{declared.reason.Reason.TheVariants.{Missing, Range}, Kind.{Kind}, Script.{Spells}}
-use Rattle.amt_script.specs.{declared.{line.RelayStatement.{RelayStatement}, script.{RelayItem.{RelayItem}, RelayScript.{RelayScript}}, setting.Setting.{Setting}}, Fault.{FailsAfter, FailsAtEnd, order_of_reasons}, Says.{SaysSetting, SaysItem}, Setting.{key_of, set_at}, Settling.{Settles}}
+use Rattle.amt_script.specs.{declared.{line.RelayStatement.{RelayStatement}, script.{RelayItem.{RelayItem}, RelayScript.{RelayScript}}, setting.Setting.{Setting}}, Fault.{FailsAfter, FailsAtEnd, order_of_reasons}, Says.{SaysSetting, SaysItem}, Setting.{key_of, set_at}, Settling.{Settles, limits_given}}
 use Rattle.amt_script.specs.declared.line.RelayStatement.TheVariants as statements
+use Rattle.amt_script.specs.declared.script.RelayItem.TheVariants as items
 
 -- the setting that a statement is, if it is one
 abbrev pub setting_in : RelayStatement → Option Setting
@@ -28,10 +31,15 @@ pub record MaySet {I : Type 0} (given : List Setting) (items : List I) (setting 
   pub early : items ≡ []
   pub new : set_at given (key_of setting) ≡ None
 
+-- the item may follow settings of these limits: new limits are within them
+abbrev pub MayCome : Limits → RelayItem → Type 0
+MayCome given (items.Event (events.Limits limits)) = AreWithin given limits
+MayCome given other = Unit {0}
+
 -- after these settings and items a line of these fields says this
 abbrev pub SaysAfter : List Setting → List RelayItem → RelayStatement → List (List ℕ) → Type 0
 SaysAfter given items (statements.Setting setting) line = MaySet given items setting × SaysSetting setting line
-SaysAfter given items (statements.Item item) line = SaysItem item line
+SaysAfter given items (statements.Item item) line = MayCome (limits_given given) item × SaysItem item line
 
 -- Together these statements are this script: a relay may be set up with its settings. Each number is in its
 -- range, since its line says it; what is left to ask is that General Queries can carry the times, and that

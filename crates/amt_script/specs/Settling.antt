@@ -1,6 +1,7 @@
 -- The settings of a script: the defaults, changed by each setting that was given.
 use Rattle.std.specs.Prelude.{◌≡◌, List, [], ◌∷◌, replicate, Option, Some, None}
-use Rattle.amt_values.specs.declared.address.Ip.{Ip}
+use Rattle.amt_values.specs.declared.address.Ip.{Ip, TheVariants.{V4}}
+use Rattle.endpoint_membership.specs.declared.limits.Limits.{Limits}
 use Rattle.response_mac.specs.declared.secret.Secret.{Secret}
 use Rattle.relay_machine.specs.{Settings.{default_settings, with_number}, declared.settings.Settings.{Settings}}
 use Rattle.amt_script.specs.declared.kind.Key.TheVariants as keys
@@ -29,6 +30,10 @@ with_setting values (settings.Secret secret) = values
 abbrev pub with_settings : Settings → List Setting → Settings
 with_settings values [] = values
 with_settings values (setting ∷ rest) = with_settings (with_setting values setting) rest
+
+-- the limits among them, or by default, which are the same whatever the relay's address is
+abbrev pub limits_given : List Setting → Limits
+limits_given given = (with_settings (default_settings (V4 0)) given).limits
 
 -- a relay's address was given, and these are its default settings with those that were given
 pub record Settles (given : List Setting) (values : Settings) (secret : Secret) : Type 0 where

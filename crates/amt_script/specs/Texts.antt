@@ -4,7 +4,7 @@ use Rattle.amt_values.specs.{declared.address.Ip.{Ip}, Endpoint.{peer_of}, Text.
 use Rattle.endpoint_membership.specs.declared.{limits.LimitFault.{LimitFault, TheVariants.{Sources, Groups, Endpoints}}, row.Row.{Row}}
 use Rattle.response_mac.specs.declared.secret.Secret.{Secret}
 use Rattle.relay_machine.specs.declared.{event.Event.{Event}, outcome.{NotForwarded.{NotForwarded, TheVariants.{Head, Scope}}, Outcome.{Outcome}}}
-use Rattle.relay_machine.specs.{declared.{outcome.{Outcome.TheVariants.{Moved, Rotated, BadSource, Undecoded, WrongKind, Advertised, Queried, BadMac, Over, Updated, NoTunnel, TornDown, TooBig, Copied}, Unlawful.{Unlawful, TheVariants.{Inner, Report}}}, sends.OneSend.{OneSend}, settings.Settings.{Settings}}, Answers.{outcome_of, rows_after, sends_of}}
+use Rattle.relay_machine.specs.{declared.{outcome.{Outcome.TheVariants.{Moved, Rotated, Resized, BadSource, Undecoded, WrongKind, Advertised, Queried, BadMac, Over, Updated, NoTunnel, TornDown, TooBig, Copied}, Unlawful.{Unlawful, TheVariants.{Inner, Report}}}, sends.OneSend.{OneSend}, settings.Settings.{Settings}}, Answers.{outcome_of, rows_after, sends_of}}
 use Rattle.relay_machine.specs.declared.event.Event.TheVariants as events
 use Rattle.relay_machine.specs.declared.outcome.Outcome.TheVariants as outcomes
 use Rattle.script_lines.specs.{Texts.{hex_text, mode_text, send_line}, Running.{script_text}, FaultTexts.{head_text, inner_text, refusal_text, report_text}}
@@ -31,6 +31,7 @@ not_forwarded_text (Scope group) = codes "scope " ++ ip_text group
 abbrev pub outcome_text : Outcome → List ℕ
 outcome_text (Moved moment) = codes "moved " ++ decimal moment
 outcome_text Rotated = codes "rotated"
+outcome_text Resized = codes "resized"
 outcome_text BadSource = codes "badsource"
 outcome_text (Undecoded refusal) = codes "refused " ++ refusal_text refusal
 outcome_text (WrongKind kind) = codes "wrongkind " ++ decimal kind
@@ -49,12 +50,14 @@ outcome_text (TooBig size) = codes "toobig " ++ decimal size
 outcome_text (outcomes.NotForwarded cause) = codes "notforwarded " ++ not_forwarded_text cause
 outcome_text (Copied count) = codes "copied " ++ decimal count
 
--- `at MS`, `dg PEER HEX`, `mc HEX` or `secret HEX`
+-- `at MS`, `dg PEER HEX`, `mc HEX`, `secret HEX` or `limits E G S`
 abbrev pub event_line : Event → List ℕ
 event_line (events.Moment moment) = codes "at " ++ decimal moment
 event_line (events.Datagram bytes from) = codes "dg " ++ (peer_text from ++ (codes " " ++ hex_text bytes))
 event_line (events.Packet bytes) = codes "mc " ++ hex_text bytes
 event_line (events.Rotate secret) = codes "secret " ++ hex_text secret.0
+event_line (events.Limits limits) =
+    codes "limits " ++ (decimal limits.endpoints ++ (codes " " ++ (decimal limits.groups ++ (codes " " ++ decimal limits.sources))))
 
 -- its line, with a line feed
 unfoldable pub event_text : Event → List ℕ

@@ -44,6 +44,7 @@ fn number_word(key: NumberKey) -> &'static str
         NumberKey::Robustness => "robustness",
         NumberKey::QuerySeconds => "query_seconds",
         NumberKey::ResponseTenths => "response_tenths",
+        NumberKey::Secrets => "secrets",
         NumberKey::Endpoints => "endpoints",
         NumberKey::Groups => "groups",
         NumberKey::Sources => "sources",
@@ -60,6 +61,8 @@ pub enum Kind {
     Moment,
     /// A new secret.
     Secret,
+    /// New limits.
+    Limits,
     /// A datagram has come.
     Datagram,
     /// A multicast packet has come.
@@ -150,6 +153,9 @@ pub fn kind_of_line<'a>(word: &[u8], rest: &'a [u8]) -> Result<(Kind, &'a [u8]),
     }
     if word == b"secret".as_slice() {
         return Ok((Kind::Secret, rest));
+    }
+    if word == b"limits".as_slice() {
+        return Ok((Kind::Limits, rest));
     }
     if word == b"dg".as_slice() {
         return Ok((Kind::Datagram, rest));

@@ -8,6 +8,7 @@
 
 mod fault_text;
 mod kind;
+mod limits_line;
 mod line;
 mod reading;
 mod replay;

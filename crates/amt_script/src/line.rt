@@ -1,15 +1,17 @@
 //! What a line of a relay's script says after the lines before it. It knows no text.
 
-ghost use Rattle.std.specs.Prelude.{◌≡◌, ◌∷◌, ◌++◌, Ok, Err, IfOk, IfErr, MatchResult};
+ghost use Rattle.std.specs.{Prelude.{◌≡◌, ◌∷◌, ◌++◌, Ok, Err, IfOk, IfErr, MatchResult}, List.{AllByRecursion}};
 ghost use Rattle.amt_values.specs.Conditions.{First};
 ghost use Rattle.script_lines.specs.{Lines.{fields}, Reading.{FailsFirst}};
 ghost use Rattle.amt_script.specs.declared.kind.Kind.TheVariants as kinds;
-ghost use Rattle.amt_script.specs.{Fault.{FailsAfter, order_of_values, order_of_reasons}, Row.{words_of}, Says.{SaysSetting}, Script.{MaySet, SaysAfter}};
+ghost use Rattle.amt_script.specs.{Fault.{FailsAfter, order_of_values, order_of_reasons}, Reading.{IsAllowed}, Row.{words_of}, Says.{SaysSetting}, Script.{MaySet, SaysAfter}};
 
 use crate::kind::{Kind, NoKind, kind_of_line};
+use crate::limits_line::read_limits;
 use crate::script::RelayItem;
 use crate::set_line::{read_set, reason_of_set_alone};
 use crate::setting::Setting;
+use crate::settling::limits_given;
 use crate::statement::{read_datagram, read_moment_item, read_packet, read_rotation, read_show};
 use script_lines::{LineError, Reason};
 use std::alloc::Global;
@@ -32,7 +34,8 @@ fn item_of(read: Result<RelayItem, Reason>) -> Result<RelayStatement, LineError>
     }
 }
 
-/// What a line of this first field says, after lines that said these settings and items.
+/// What a line of this first field says, after lines that said these settings, each number of which is in
+/// its range, and items.
 pub fn read_statement(
     alloc: Global,
     given: &[Setting],
@@ -40,8 +43,10 @@ pub fn read_statement(
     word: &[u8],
     rest: &[u8],
 ) -> Result<RelayStatement, LineError>
-    ensures found { IfOk result (λ statement. SaysAfter given.now items.now statement (word.now ∷ fields rest.now)) }
-    ensures reason { IfErr result (FailsFirst (FailsAfter given.now items.now (word.now ∷ fields rest.now)) order_of_reasons) }
+    ensures found { AllByRecursion IsAllowed given.now
+        → IfOk result (λ statement. SaysAfter given.now items.now statement (word.now ∷ fields rest.now)) }
+    ensures reason { AllByRecursion IsAllowed given.now
+        → IfErr result (FailsFirst (FailsAfter given.now items.now (word.now ∷ fields rest.now)) order_of_reasons) }
 {
     match kind_of_line(word, rest) {
         Err(NoKind::Unknown) => Err(LineError::Bad(Reason::Word)),
@@ -52,6 +57,7 @@ pub fn read_statement(
         },
         Ok((Kind::Moment, values)) => item_of(read_moment_item(values)),
         Ok((Kind::Secret, values)) => item_of(read_rotation(values)),
+        Ok((Kind::Limits, values)) => item_of(read_limits(&limits_given(given), values)),
         Ok((Kind::Datagram, values)) => Ok(RelayStatement::Item(read_datagram(alloc, values)?)),
         Ok((Kind::Packet, values)) => Ok(RelayStatement::Item(read_packet(alloc, values)?)),
         Ok((Kind::Show, values)) => item_of(read_show(values)),

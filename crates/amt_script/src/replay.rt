@@ -2,7 +2,7 @@
 
 ghost use Rattle.std.specs.{Prelude.{◌≡◌, ◌+◌, ◌≤◌, ◌<◌, ◌^◌, [], ◌∷◌, ◌++◌, flat_map, OnOk, OnErr, IsErrOf}, Io.KnownBytes.{Appends}};
 ghost use Rattle.amt_ports.specs.Causes.{Rose};
-ghost use Rattle.relay_machine.specs.{Answers.{After, RelayAt, outcome_of, rows_after, sends_of}, EventSize.{IsEvent}};
+ghost use Rattle.relay_machine.specs.{Answers.{After, RelayAt, outcome_of, rows_after, sends_of, settings_of}, EventSize.{IsEvent}};
 ghost use Rattle.script_lines.specs.{Counting.{CountsWrites}, Writing.{WritesPrefix, WritesUpTo}};
 ghost use Rattle.amt_script.specs.{Running.{IsItem, IsRunnable}, Texts.{events_in, item_text, row_text, rows_text, step_text, relay_script_text}};
 
@@ -25,7 +25,7 @@ fn write_step<O: Sink>(
     held: &mut Bytes,
     out: &mut O,
 ) -> Result<(), RunFault>
-    requires { IsEvent event.now }
+    requires { IsEvent (settings_of relay.old) event.now }
     ensures done { After relay.old (λ settings first events.
         OnOk result (WritesUpTo (O.written out.old) (O.written out.new)
         (held.old ++ step_text number (outcome_of settings first events event.now)
@@ -120,7 +120,7 @@ fn write_item<O: Sink>(
     held: &mut Bytes,
     out: &mut O,
 ) -> Result<(), RunFault>
-    requires { IsItem item.now }
+    requires { IsItem (settings_of relay.old) item.now }
     ensures done { After relay.old (λ settings first events.
         OnOk result (WritesUpTo (O.written out.old) (O.written out.new)
         (held.old ++ item_text settings first events number item.now) held.new)) }
@@ -153,7 +153,7 @@ impl ScriptRun for RelayRun {
 
     ghost IsAfter = { λ run start before. IsRelayAfter run.relay start before };
 
-    ghost MayCome = { λ start item. IsItem item };
+    ghost MayCome = { λ start item. IsItem start.settings item };
 
     ghost text_of = { λ start before number item. text_after start before number item };
 

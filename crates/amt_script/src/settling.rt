@@ -2,11 +2,12 @@
 
 ghost use Rattle.std.specs.{Prelude.{◌≡◌, IfSome, IfNone, None}, List.{AllByRecursion}};
 ghost use Rattle.relay_machine.specs.Settings.{default_settings};
-ghost use Rattle.amt_script.specs.{Reading.{IsAllowed}, Settling.{Settles, relay_in, secret_in, with_setting, with_settings}, Setting.{set_at}};
+ghost use Rattle.amt_script.specs.{Reading.{IsAllowed}, Settling.{Settles, limits_given, relay_in, secret_in, with_setting, with_settings}, Setting.{set_at}};
 
 use crate::kind::Key;
 use crate::setting::{Setting, setting_at};
 use amt_values::Ip;
+use endpoint_membership::Limits;
 use relay_machine::Settings;
 use response_mac::Secret;
 
@@ -58,6 +59,13 @@ fn settings_of(relay: Ip, given: &[Setting]) -> Settings
         set(&mut settings, setting);
     }
     settings
+}
+
+/// The limits that these settings allow: those that are given, or the defaults.
+pub fn limits_given(given: &[Setting]) -> Limits
+    ensures { AllByRecursion IsAllowed given.now → result ≡ limits_given given.now }
+{
+    settings_of(Ip::V4(0), given).limits
 }
 
 /// What these settings set; none where there is no relay's address.

@@ -3,6 +3,7 @@
 ghost use Rattle.std.specs.Prelude.{◌≡◌, ◌⊎◌, [], ◌∷◌, ◌++◌, IfOk, IfErr, IfNone};
 ghost use Rattle.amt_script.specs.declared.kind.Kind.TheVariants as kinds;
 ghost use Rattle.amt_values.specs.Conditions.{First};
+ghost use Rattle.relay_machine.specs.declared.settings.Settings.{Settings as SettingsValue};
 ghost use Rattle.script_lines.specs.{Lines.{fields}, Reading.{FailsFirst}};
 ghost use Rattle.amt_script.specs.{Fault.{FailsAs, order_of_values}, Row.{words_of, form_of_key}, Running.{IsItem}, Says.{SaysItem, SaysSetting}, Setting.{key_of}};
 
@@ -70,7 +71,7 @@ pub fn read_setting(key: Key, values: &[u8]) -> Result<Setting, Reason>
 /// The item of a line `at MS`, by what follows its first word.
 pub fn read_moment_item(values: &[u8]) -> Result<RelayItem, Reason>
     ensures found { IfOk result (λ item. SaysItem item (words_of kinds.Moment ++ fields values.now)) }
-    ensures sized { IfOk result IsItem }
+    ensures sized { (settings : SettingsValue) → IfOk result (IsItem settings) }
     ensures reason { IfErr result (λ reason. First (FailsAs kinds.Moment (fields values.now)) order_of_values reason) }
 {
     let Some(text) = only_field(values) else {
@@ -85,7 +86,7 @@ pub fn read_moment_item(values: &[u8]) -> Result<RelayItem, Reason>
 /// The item of a line `secret HEX`, by what follows its first word.
 pub fn read_rotation(values: &[u8]) -> Result<RelayItem, Reason>
     ensures found { IfOk result (λ item. SaysItem item (words_of kinds.Secret ++ fields values.now)) }
-    ensures sized { IfOk result IsItem }
+    ensures sized { (settings : SettingsValue) → IfOk result (IsItem settings) }
     ensures reason { IfErr result (λ reason. First (FailsAs kinds.Secret (fields values.now)) order_of_values reason) }
 {
     let Some(text) = only_field(values) else {
@@ -120,7 +121,7 @@ pub fn read_datagram(alloc: Global, values: &[u8]) -> Result<RelayItem, LineErro
 /// The item of a line `mc HEX`, by what follows its first word.
 pub fn read_packet(alloc: Global, values: &[u8]) -> Result<RelayItem, LineError>
     ensures found { IfOk result (λ item. SaysItem item (words_of kinds.Packet ++ fields values.now)) }
-    ensures sized { IfOk result IsItem }
+    ensures sized { (settings : SettingsValue) → IfOk result (IsItem settings) }
     ensures reason { IfErr result (FailsFirst (FailsAs kinds.Packet (fields values.now)) order_of_values) }
 {
     let Some(octets) = only_field(values) else {
@@ -136,7 +137,7 @@ pub fn read_packet(alloc: Global, values: &[u8]) -> Result<RelayItem, LineError>
 /// The item of a line `show`, by what follows the word, which is nothing.
 pub fn read_show(values: &[u8]) -> Result<RelayItem, Reason>
     ensures found { IfOk result (λ item. SaysItem item (words_of kinds.Show ++ fields values.now)) }
-    ensures sized { IfOk result IsItem }
+    ensures sized { (settings : SettingsValue) → IfOk result (IsItem settings) }
     ensures reason { IfErr result (λ reason. First (FailsAs kinds.Show (fields values.now)) order_of_values reason) }
 {
     match next_field(values) {

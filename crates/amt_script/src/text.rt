@@ -1,12 +1,13 @@
 //! The texts of a relay's events and steps. It knows no script and no sink.
 
 ghost use Rattle.std.specs.Prelude.{◌≡◌, ◌++◌, ◌≤◌, codes, decimal, length, OnOk, IfOk};
-ghost use Rattle.relay_machine.specs.{EventSize.{IsEvent}, declared.outcome.Outcome.TheVariants.{Queried, NotForwarded as NotForwardedFor}};
+ghost use Rattle.relay_machine.specs.declared.outcome.Outcome.TheVariants.{Queried, NotForwarded as NotForwardedFor};
 ghost use Rattle.relay_machine.specs.declared.event.Event.TheVariants as events;
-ghost use Rattle.amt_script.specs.{Printed.{IsLineOf, IsLineThatSays}, Texts.{answer_line, outcome_text, event_line, event_text, send_text, step_text}};
+ghost use Rattle.amt_script.specs.{Printed.{HasLine, IsLineOf, IsLineThatSays}, Texts.{answer_line, outcome_text, event_line, event_text, send_text, step_text}};
 
 use crate::fault_text::{append_limit, append_not_forwarded, append_unlawful};
 use amt_values::{Bytes, Peer, append_numeral, print_peer};
+use endpoint_membership::Limits;
 use relay_machine::{Event, NotForwarded, Outcome, Step};
 use script_lines::{append_hex, append_numbered, append_refusal, append_send};
 use std::alloc::{AllocError, Global};
@@ -36,6 +37,7 @@ pub fn append_relay_outcome(text: &mut Bytes, outcome: &Outcome) -> Result<(), A
     match *outcome {
         Outcome::Moved(moment) => append_numbered(text, b"moved ", moment.ms()),
         Outcome::Rotated => text.append(b"rotated"),
+        Outcome::Resized => text.append(b"resized"),
         Outcome::BadSource => text.append(b"badsource"),
         Outcome::Undecoded(refusal) => {
             text.append(b"refused ")?;
@@ -85,8 +87,22 @@ fn print_packet_line(alloc: Global, bytes: &Bytes) -> Result<Bytes, AllocError>
     Ok(text)
 }
 
+fn print_limits_line(alloc: Global, limits: &Limits) -> Result<Bytes, AllocError>
+    requires { HasLine (events.Limits limits.now) }
+    ensures value { IfOk result (λ text. text ≡ event_line (events.Limits limits.now)) }
+    ensures says { IfOk result (IsLineThatSays (events.Limits limits.now)) }
+{
+    let mut text = Bytes::copied(alloc, b"limits ")?;
+    append_numeral(&mut text, u64::from(limits.endpoints))?;
+    text.append(b" ")?;
+    append_numeral(&mut text, u64::from(limits.groups))?;
+    text.append(b" ")?;
+    append_numeral(&mut text, u64::from(limits.sources))?;
+    Ok(text)
+}
+
 fn print_event_line(alloc: Global, event: &Event) -> Result<Bytes, AllocError>
-    requires { IsEvent event.now }
+    requires { HasLine event.now }
     ensures value { IfOk result (λ text. text ≡ event_line event.now) }
     ensures says { IfOk result (IsLineThatSays event.now) }
 {
@@ -103,13 +119,15 @@ fn print_event_line(alloc: Global, event: &Event) -> Result<Bytes, AllocError>
             append_hex(&mut text, &secret.0)?;
             Ok(text)
         }
+        Event::Limits(limits) => print_limits_line(alloc, limits),
     }
 }
 
-/// A script's line that says the event, with its line feed. It is read back as the event.
+/// A script's line that says the event, with its line feed. It is read back as the event, new limits after
+/// settings that allow them.
 #[tactic(auto, unfolding(crate::specs::Texts::event_text))]
 pub fn print_relay_event(alloc: Global, event: &Event) -> Result<Bytes, AllocError>
-    requires { IsEvent event.now }
+    requires { HasLine event.now }
     ensures text { IfOk result (λ text. text ≡ event_text event.now) }
     ensures back { IfOk result (IsLineOf event.now) }
 {

@@ -113,9 +113,9 @@ rows-unless_cleared lifetime log later endpoint at moment some none onward =
 -- where no time passes, a table from which no membership is taken is as it was
 pub none_cleared : (settings : TableSettings) (table : TableValue) (log : List Change) (endpoint : EndpointValue) (at moment : ℕ) (fresh rows : List Membership) → moment ≡ max table.moment at
     → fresh ≡ filter (is_fresh table.lifetime moment) table.rows → rows ≡ filter (is_of_another endpoint) fresh → Holds settings table log → at ≤ latest log
-    → is_live endpoint fresh ≡ false → table_of moment table.limits table.lifetime rows ≡ table
+    → is_live endpoint fresh ≡ false → table_of moment table rows ≡ table
 none_cleared settings table log endpoint at moment fresh rows is left gone holds before none =
-    ap (table_of moment table.limits table.lifetime) (gone ∙ others_left endpoint fresh none) ∙ no_later settings table log at moment fresh is left holds before
+    ap (table_of moment table) (gone ∙ others_left endpoint fresh none) ∙ no_later settings table log at moment fresh is left holds before
 
 -- memberships after a clearing are within all limits that they were within before
 pub IsWithin-cleared : (limits : Limits) (settings : TableSettings) (log : List Change) (endpoint : EndpointValue) (at : ℕ) → IsWithin limits (memberships_now settings log)
@@ -125,7 +125,7 @@ IsWithin-cleared limits settings log endpoint at within =
     let cleared = log ++ Clear endpoint at ∷ [] in
     let moment = max (latest log) at in
     let fresh = filter (is_fresh settings.lifetime moment) before in
-    let stands : Holds settings (table_of (latest log) settings.limits settings.lifetime before) log =
+    let stands : Holds settings (record { moment = latest log; limits = settings.limits; in_force = settings.limits; lifetime = settings.lifetime; rows = before }) log =
     record { limits = refl; lifetime = refl; moment = refl; rows = AreMembershipsAt-memberships_at settings.lifetime (latest log) log } in
     let after = Holds-clear settings _ log endpoint at moment fresh (filter (is_of_another endpoint) fresh) refl refl refl stands in
     subst (IsWithin limits) (rows_are settings.lifetime (latest cleared) cleared (filter (is_of_another endpoint) fresh) after.rows)

@@ -1,8 +1,8 @@
 -- Records that others leave without effect may be left out.
-use Rattle.std.{proofs.{Common.{◌≡◌, ℕ, Bool, true, false, cond, not, ◌&&◌, ◌||◌, List, [], ◌∷◌, ◌++◌, filter, Option, Some, None, refl, sym, ap, subst, ◌∙◌, append-nil}, lemmas.Map.Views.{tells_apart}}, specs.BTreeMap.{BTreeMap, get}}
+use Rattle.std.{proofs.{Common.{◌≡◌, ℕ, Bool, true, false, cond, not, ◌&&◌, ◌||◌, List, [], ◌∷◌, ◌++◌, filter, Option, Some, None, refl, sym, ap, ◌∙◌, append-nil}, lemmas.Map.Views.{tells_apart}}, specs.BTreeMap.{BTreeMap, get}}
 use Rattle.amt_values.{specs.{declared.address.Ip.{Ip}, Order.{ip_order}, Ascending.{IsAscending, ascending, difference, has, union}}, proofs.{Orders.{ip_order-exact, ip_order-total}, AscendingLaws.{IsAscending-ascending, IsAscending-filter, ascending-fixed}}}
 use Rattle.source_filter.specs.{Filter.{FilterValue, filter_after, sources_after}, Record.{is_full}, declared.mode.Mode.{Mode, TheVariants.{Include, Exclude}}, declared.record.{Record.{Record}, RecordKind.{RecordKind, TheVariants.{Allow, Block}}}}
-use Rattle.endpoint_membership.{specs.{Effective.{AreEnough, AreKnown, IsInOrder, Settle, is_idle, only_renews, renewed_at}, EndpointGroup.{same_group}, EndpointMemberships.{filter_or_nothing, renewed_filter_after, renewed_filter_after_all}, Log.{is_empty, on_group}, declared.after_report.RenewedFilter.{RenewedFilter}}, proofs.FilterMap.{same_group-back}}
+use Rattle.endpoint_membership.{specs.{Effective.{AreEnough, AreKnown, IsInOrder, Settle, is_idle, only_renews, renewed_at}, EndpointGroup.{same_group}, EndpointMemberships.{filter_or_nothing, renewed_filter_after, renewed_filter_after_all}, Log.{on_group}, declared.after_report.RenewedFilter.{RenewedFilter}}, proofs.FilterMap.{same_group-back}}
 
 abbrev record_of : RecordKind → Ip → List Ip → Record
 record_of kind group sources = record { kind = kind; group = group; sources = sources }

@@ -1,12 +1,9 @@
 -- The groups of one endpoint, as a map of filters, as memberships, and as the pairs of which nothing is wanted.
-use Rattle.std.proofs.{Common.{◌≡◌, ℕ, Bool, true, false, cond, ◌&&◌, List, [], ◌∷◌, ◌++◌, filter, Option, Some, None, refl, sym, ap, subst, ◌∙◌, append-nil, not, ◌||◌, map, is_some, if◌then◌else◌, true≢false}}
-use Rattle.std.proofs.lemmas.{Cmp.{eq_by_cmp_equiv, tied_itself}, List.Elements.{filter_map-append}, Map.{Keys.{sorted_head, sorted_tail, IsDistinct-from_sorted}, Views.{tells_apart}, Entries.{lookup-filter-values, option_filter}, Made.{is_some-lookup}}, Bool.{and_parts, and_right}}
-use Rattle.std.specs.{BTreeMap.{BTreeMap, Updates, get, is_at, IsOrdered}, List.{Sorted.{IsStrictlySortedBy}, AllByRecursion, cons_option, filter_map}, Map.{keys_of, lookup}, Option.{option_or}, Ordering.{is_eq, eq_by_cmp}, declared.cmp.Ordering.{TheVariants.{Less}, Ordering}}
-use Rattle.amt_values.{specs.{declared.address.Ip.{Ip}, Order.{ip_order}, EndpointValue.{EndpointValue}, Ascending.{IsAscending, has}}, proofs.Orders.{ip_order-exact, ip_order-total, endpoint_order-total, endpoint_order-exact}}
+use Rattle.std.{proofs.{Common.{◌≡◌, ℕ, Bool, true, false, cond, ◌&&◌, List, [], ◌∷◌, ◌++◌, filter, Option, Some, None, refl, sym, ap, subst, ◌∙◌, append-nil, not, ◌||◌, map, is_some, if◌then◌else◌, true≢false, length}, lemmas.{Cmp.{eq_by_cmp_equiv, tied_itself}, List.{Elements.{filter_map-append}, Sums.{length-filter}, length-map}, Map.{Keys.{sorted_head, sorted_tail, IsDistinct-from_sorted}, Views.{tells_apart}, Entries.{lookup-filter-values, option_filter, length-keys_of}, Made.{is_some-lookup}}, Bool.{and_parts, and_right}}}, specs.{BTreeMap.{BTreeMap, Updates, get, is_at, IsOrdered}, List.{Sorted.{IsStrictlySortedBy}, AllByRecursion, cons_option, filter_map}, Map.{keys_of, lookup}, Option.{option_or}, Ordering.{is_eq, eq_by_cmp}, declared.cmp.Ordering.{TheVariants.{Less}, Ordering}}}
+use Rattle.amt_values.{specs.{declared.address.Ip.{Ip}, Order.{ip_order}, EndpointValue.{EndpointValue}, Ascending.{IsAscending, has}}, proofs.{Orders.{ip_order-exact, ip_order-total, endpoint_order-total, endpoint_order-exact}, AscendingLaws.{IsAscending-filter, same_ascending}}}
 use Rattle.source_filter.specs.{Filter.{FilterValue, wants_any}, declared.record.Record.{Record}}
-use Rattle.endpoint_membership.specs.{Membership.{Membership, is_fresh, membership_order, endpoint_group_of}, Stored.{only}, declared.after_report.RenewedFilter.{RenewedFilter}, EndpointMemberships.{AreOf, membership_of_entry, membership_of_renewed, renewed_filter_after, renewed_filter_after_all, renewed_filter_of, AreGone, gone_of_entry}, Log.{on_group}}
-use Rattle.endpoint_membership.specs.{EndpointGroup.{EndpointGroup, endpoint_group_order, same_endpoint, same_group}, Memberships.{membership_in}}
-use Rattle.endpoint_membership.proofs.{MembershipsByLog.{AreAfter-cons_option, IsAscending-cons_option, membership_by, membership_in-cons_option}, MembershipIn.{AreAfter, membership_in-after}, EndpointGroupOrder.{same_endpoint_group-is}}
+use Rattle.endpoint_membership.specs.{Membership.{Membership, is_fresh, membership_order, endpoint_group_of}, Stored.{only}, declared.after_report.RenewedFilter.{RenewedFilter}, EndpointMemberships.{AreOf, membership_of_entry, membership_of_renewed, renewed_filter_after, renewed_filter_after_all, renewed_filter_of, AreGone, gone_of_entry}, Log.{on_group}, EndpointGroup.{EndpointGroup, endpoint_group_order, same_endpoint, same_group}, Memberships.{membership_in}, Limits.{group_count}}
+use Rattle.endpoint_membership.proofs.{MembershipsByLog.{AreAfter-cons_option, IsAscending-cons_option, membership_by, membership_in-cons_option}, MembershipIn.{AreAfter, membership_in-after, has-pairs, IsAscending-pairs, membership_in-filter, membership_in-where}, EndpointGroupOrder.{same_endpoint_group-is, endpoint_group_order-exact, endpoint_group_order-total}}
 
 pub same_group-back : (one other : Ip) → same_group one other ≡ same_group other one
 same_group-back one other = (eq_by_cmp_equiv ip_order-total).symm one other
@@ -204,3 +201,41 @@ AreGone-filters lifetime moment endpoint records rows own gone filters ordered e
           no_membership (only (is_fresh lifetime moment) (membership_in rows (endpoint_group endpoint group)))
           (none_before moment (on_group group records) _ (sym (each group) ∙ none_at_all endpoint group (get ip_order filters group) wanted (sym (found_in group) ∙ none)));
     }
+
+groups_after : (endpoint : EndpointValue) (group : Ip) (groups : List Ip) → AllByRecursion (λ later. ip_order group later ≡ Less) groups
+    → AllByRecursion (λ later. endpoint_group_order (endpoint_group endpoint group) later ≡ Less) (map (endpoint_group endpoint) groups)
+groups_after endpoint group [] after = tt
+groups_after endpoint group (next ∷ rest) after = (endpoint_group_by_group endpoint group next ∙ after.0, groups_after endpoint group rest after.1)
+
+IsAscending-groups : (endpoint : EndpointValue) (groups : List Ip) → IsStrictlySortedBy ip_order groups → IsStrictlySortedBy endpoint_group_order (map (endpoint_group endpoint) groups)
+unfolding IsStrictlySortedBy
+IsAscending-groups endpoint [] sorted = tt
+IsAscending-groups endpoint (group ∷ rest) sorted = (groups_after endpoint group rest sorted.0, IsAscending-groups endpoint rest sorted.1)
+
+is_some-renewed : (found : Option Membership) → is_some (renewed_filter_of found) ≡ is_some found
+is_some-renewed None = refl
+is_some-renewed (Some membership) = refl
+
+mine_by : (here listed : Bool) (found : Option Membership) → (here ≡ true → listed ≡ is_some found) → (here && listed) ≡ is_some (cond here found None)
+mine_by true listed found is = is refl
+mine_by false listed found is = refl
+
+-- a map of the filters of an endpoint's memberships has as many groups as the endpoint
+pub length-filters : (lifetime moment : ℕ) (endpoint : EndpointValue) (rows : List Membership) (filters : BTreeMap Ip RenewedFilter) → IsAscending membership_order rows → IsOrdered ip_order filters
+    → ((group : Ip) → get ip_order filters group ≡ renewed_filter_of (only (is_fresh lifetime moment) (membership_in rows (endpoint_group endpoint group))))
+    → length filters.entries ≡ group_count endpoint (filter (is_fresh lifetime moment) rows)
+length-filters lifetime moment endpoint rows filters ascends ordered each =
+    let test = is_fresh lifetime moment in
+    let fresh = filter test rows in
+    let fresh_ascends = IsAscending-filter membership_order test rows ascends in
+    let is_of = λ (membership : Membership). same_endpoint membership.endpoint endpoint in
+    let mine = filter is_of fresh in
+    let groups = keys_of filters.entries in
+    let same = same_ascending endpoint_group_order-total endpoint_group_order-exact (map (endpoint_group endpoint) groups) (map endpoint_group_of mine) (IsAscending-groups endpoint groups ordered)
+    (IsAscending-pairs mine (IsAscending-filter membership_order is_of fresh fresh_ascends)) (λ at. has-groups endpoint groups at
+    ∙ mine_by (same_endpoint at.endpoint endpoint) (has ip_order groups at.group) (membership_in fresh at) (λ here.
+    sym (is_some-lookup (eq_by_cmp ip_order at.group) filters.entries) ∙ ap is_some (each at.group) ∙ is_some-renewed (only test (membership_in rows (endpoint_group endpoint at.group)))
+    ∙ ap (λ (one : EndpointValue). is_some (only test (membership_in rows (endpoint_group one at.group)))) (sym (tells_apart endpoint_order-exact at.endpoint endpoint here))
+    ∙ ap is_some (sym (membership_in-filter test rows at ascends)))
+    ∙ ap is_some (sym (membership_in-where (λ (one : EndpointGroup). same_endpoint one.endpoint endpoint) fresh at fresh_ascends)) ∙ sym (has-pairs mine at)) in
+    sym (length-keys_of filters.entries) ∙ sym (length-map groups (endpoint_group endpoint)) ∙ ap (λ (pairs : List EndpointGroup). length pairs) same ∙ length-map mine endpoint_group_of ∙ length-filter is_of fresh

@@ -1,9 +1,9 @@
 -- Tables that stand for a log, and what each call leaves.
-use Rattle.std.{proofs.{Common.{◌≤◌, ◌≡◌, ℕ, ◌<◌, max, List, [], ◌∷◌, ◌++◌, reverse, filter, Some, refl, sym, ap, subst, ◌∙◌, arith}, lemmas.List.{reverse-append}}, specs.List.Sorted.{IsStrictlySortedBy}}
+use Rattle.std.{proofs.{Common.{◌≤◌, ◌≡◌, ℕ, ◌<◌, max, List, [], ◌∷◌, ◌++◌, reverse, filter, Some, refl, sym, ap, subst, ◌∙◌, arith, Option, None, ◌↔◌}, lemmas.List.{reverse-append}}, specs.List.Sorted.{IsStrictlySortedBy}}
 use Rattle.amt_values.specs.{EndpointValue.{EndpointValue}, Ascending.{IsAscending}}
 use Rattle.source_filter.specs.declared.record.Record.{Record}
-use Rattle.endpoint_membership.specs.{declared.{change.Change.{Change, TheVariants.{Reported, Clear, Mark}}, limits.{LimitFault.{LimitFault}, Limits.{Limits}}}, Membership.{Membership, is_fresh, membership_order}, Stored.{is_of_another}, Limits.{IsWithin}, Log.{brought, latest}, EndpointMemberships.{AreOwn}, Memberships.{memberships_at}}
-use Rattle.endpoint_membership.{specs.Table.{AreMembershipsAt, Holds, IsWithinLimits, TableValue, TableSettings, limit_passed, memberships_now}, proofs.{MembershipsByLog.{AreMembershipsAt-memberships_at, rows_are}, AfterReport.{AreAfterReport, AreAfterReport-log, AreMembershipsAt-reported}, LimitByOwn.{first_limit_is, limit_by_own}, AfterEntries.{AreMembershipsAt-clear, AreMembershipsAt-later, AreMembershipsAt-other}, WithinLimits.{none_passed}}}
+use Rattle.endpoint_membership.specs.{declared.{change.Change.{Change, TheVariants.{Reported, Clear, Mark}}, limits.{LimitFault.{LimitFault}, Limits.{Limits}}}, Membership.{Membership, is_fresh, membership_order}, Stored.{is_of_another}, Limits.{IsWithin, first_limit, group_count}, Log.{brought, latest}, EndpointMemberships.{limit_by_own, AreOwn}, Memberships.{memberships_at}, Table.{AreMembershipsAt, Holds, IsWithinLimits, TableValue, TableSettings, limit_passed, memberships_now, memberships_without, memberships_with, ReportFits}}
+use Rattle.endpoint_membership.proofs.{MembershipsByLog.{AreMembershipsAt-memberships_at, rows_are}, AfterReport.{AreAfterReport, AreAfterReport-log, AreMembershipsAt-reported}, LimitByOwn.{first_limit_is}, AfterEntries.{AreMembershipsAt-clear, AreMembershipsAt-later, AreMembershipsAt-other}, WithinLimits.{none_passed, fits_passed}}
 
 latest-append : (xs ys : List Change) → latest (xs ++ ys) ≡ max (latest xs) (latest ys)
 latest-append [] ys = omega arith
@@ -22,17 +22,18 @@ latest-reverse (entry ∷ rest) =
 pub reverse-push : (log : List Change) (entry : Change) → reverse (log ++ entry ∷ []) ≡ entry ∷ reverse log
 reverse-push log entry = reverse-append log (entry ∷ [])
 
-abbrev pub table_of : ℕ → Limits → ℕ → List Membership → TableValue
-table_of moment limits lifetime rows = record { moment = moment; limits = limits; lifetime = lifetime; rows = rows }
+-- the table at a moment with these memberships
+abbrev pub table_of : ℕ → TableValue → List Membership → TableValue
+table_of moment table rows = record table { moment = moment; rows = rows }
 
 -- no entry, no membership
-pub Holds-new : (limits : Limits) (lifetime : ℕ) → Holds (record { limits = limits; lifetime = lifetime }) (table_of 0 limits lifetime []) []
+pub Holds-new : (limits : Limits) (lifetime : ℕ) → Holds (record { limits = limits; lifetime = lifetime }) (record { moment = 0; limits = limits; in_force = limits; lifetime = lifetime; rows = [] }) []
 unfolding IsStrictlySortedBy
 Holds-new limits lifetime = record { limits = refl; lifetime = refl; moment = refl; rows = record { ascend = tt; each = λ endpoint_group. refl } }
 
 -- memberships by the log with an entry, from memberships by the log turned round
 held : (settings : TableSettings) (table : TableValue) (log : List Change) (entry : Change) (moment : ℕ) (rows : List Membership) → Holds settings table log → moment ≡ max table.moment (brought entry)
-    → AreMembershipsAt settings.lifetime (latest (entry ∷ reverse log)) (entry ∷ reverse log) rows → Holds settings (table_of moment table.limits table.lifetime rows) (log ++ entry ∷ [])
+    → AreMembershipsAt settings.lifetime (latest (entry ∷ reverse log)) (entry ∷ reverse log) rows → Holds settings (table_of moment table rows) (log ++ entry ∷ [])
 held settings table log entry moment rows holds is are =
     let later = latest-push log entry in
     let turned = latest-reverse log in
@@ -58,7 +59,7 @@ fresh_rows settings table log entry moment holds is =
 
 -- time passes
 pub Holds-mark : (settings : TableSettings) (table : TableValue) (log : List Change) (at moment : ℕ) (rows : List Membership) → moment ≡ max table.moment at → rows ≡ filter (is_fresh table.lifetime moment) table.rows
-    → Holds settings table log → Holds settings (table_of moment table.limits table.lifetime rows) (log ++ Mark at ∷ [])
+    → Holds settings table log → Holds settings (table_of moment table rows) (log ++ Mark at ∷ [])
 Holds-mark settings table log at moment rows is fresh holds =
     held settings table log (Mark at) moment rows holds is
     (AreMembershipsAt-other settings.lifetime (latest (Mark at ∷ reverse log)) (Mark at) (reverse log) rows (λ endpoint_group. refl)
@@ -67,7 +68,7 @@ Holds-mark settings table log at moment rows is fresh holds =
 -- an endpoint leaves every group
 pub Holds-clear : (settings : TableSettings) (table : TableValue) (log : List Change) (endpoint : EndpointValue) (at moment : ℕ) (fresh rows : List Membership) → moment ≡ max table.moment at
     → fresh ≡ filter (is_fresh table.lifetime moment) table.rows → rows ≡ filter (is_of_another endpoint) fresh
-    → Holds settings table log → Holds settings (table_of moment table.limits table.lifetime rows) (log ++ Clear endpoint at ∷ [])
+    → Holds settings table log → Holds settings (table_of moment table rows) (log ++ Clear endpoint at ∷ [])
 Holds-clear settings table log endpoint at moment fresh rows is left gone holds =
     let entry = Clear endpoint at in
     let now = latest (entry ∷ reverse log) in
@@ -102,7 +103,7 @@ module _ (settings : TableSettings) (table : TableValue) (log : List Change) (en
   by_log P given = subst (λ (lifetime : ℕ). P lifetime last) holds.lifetime (subst (P table.lifetime) last_is given)
 
   -- a report, with the memberships that its records leave in the place of the endpoint's
-  pub Holds-report : (rows : List Membership) → AreAfterReport table.lifetime moment endpoint table.rows own rows → Holds settings (table_of moment table.limits table.lifetime rows) (log ++ Reported endpoint records at ∷ [])
+  pub Holds-report : (rows : List Membership) → AreAfterReport table.lifetime moment endpoint table.rows own rows → Holds settings (table_of moment table rows) (log ++ Reported endpoint records at ∷ [])
   Holds-report rows put =
       held settings table log (Reported endpoint records at) moment rows holds is
       (AreMembershipsAt-reported settings.lifetime (latest log) at endpoint records (reverse log) table.rows own (subst (λ (lifetime : ℕ). 0 < lifetime) holds.lifetime some)
@@ -110,10 +111,11 @@ module _ (settings : TableSettings) (table : TableValue) (log : List Change) (en
       (by_log (λ (lifetime later : ℕ). AreAfterReport lifetime later endpoint table.rows own rows) put))
 
   -- the limit that a report passes is found by the memberships of its endpoint
-  pub passed_is : IsAscending membership_order table.rows → limit_passed settings log endpoint records at ≡ limit_by_own table.lifetime moment table.limits endpoint records table.rows own
-  passed_is ascends =
+  pub passed_is : (limits : Limits) → IsAscending membership_order table.rows → limit_passed (record settings { limits = limits }) log endpoint records at
+      ≡ limit_by_own table.lifetime moment limits endpoint records table.rows (group_count endpoint (filter (is_fresh table.lifetime moment) table.rows)) own
+  passed_is limits ascends =
       let entry = Reported endpoint records at in
-      let rows = memberships_now settings (log ++ entry ∷ []) in
+      let rows = memberships_with settings log endpoint records at in
       let later = latest-push log entry in
       let turned = latest-reverse log in
       let whole : latest (log ++ entry ∷ []) ≡ last = omega arith in
@@ -121,9 +123,11 @@ module _ (settings : TableSettings) (table : TableValue) (log : List Change) (en
       (subst (λ (moment : ℕ). AreMembershipsAt settings.lifetime moment (reverse (log ++ entry ∷ [])) rows) whole (AreMembershipsAt-memberships_at settings.lifetime (latest (log ++ entry ∷ [])) (log ++ entry ∷ []))) in
       let put = AreAfterReport-log settings.lifetime (latest log) at endpoint records (reverse log) table.rows own (subst (λ (lifetime : ℕ). 0 < lifetime) holds.lifetime some) (omega arith) holds.rows
       (by_log (λ (lifetime later : ℕ). AreOwn lifetime later endpoint records table.rows own) owned) rows stand in
-      first_limit_is settings.lifetime last settings.limits endpoint records table.rows own rows ascends owned.ascends owned.of put
-      ∙ sym (by_log (λ (lifetime later : ℕ). limit_by_own table.lifetime moment table.limits endpoint records table.rows own ≡ limit_by_own lifetime later settings.limits endpoint records table.rows own)
-      (ap (λ (limits : Limits). limit_by_own table.lifetime moment limits endpoint records table.rows own) holds.limits))
+      let by : ℕ → ℕ → Option LimitFault = λ lifetime later. limit_by_own lifetime later limits endpoint records table.rows (group_count endpoint (filter (is_fresh lifetime later) table.rows)) own in
+      ap (λ (without : List Membership). first_limit limits endpoint records without rows)
+      (sym (by_log (λ (lifetime later : ℕ). filter (is_fresh lifetime later) table.rows ≡ memberships_without settings log at) (fresh_are settings table log at moment is holds)))
+      ∙ first_limit_is settings.lifetime last limits endpoint records table.rows own rows ascends owned.ascends owned.of put
+      ∙ sym (by_log (λ (lifetime later : ℕ). by table.lifetime moment ≡ by lifetime later) refl)
 
 -- what a table keeps within its limits is within them by the log
 pub IsWithin-log : (settings : TableSettings) (table : TableValue) (log : List Change) → Holds settings table log → IsWithinLimits table → IsWithin settings.limits (memberships_now settings log)
@@ -131,19 +135,27 @@ IsWithin-log settings table log holds within =
     subst (IsWithin settings.limits) (rows_are settings.lifetime (latest log) log table.rows holds.rows)
     (subst (λ (limits : Limits). IsWithin limits table.rows) holds.limits within)
 
--- where a limit is passed, the memberships with the report aren't within the limits
+-- by every log, a report passes no limit exactly where it fits
+pub none_where_it_fits : (settings : TableSettings) (log : List Change) (endpoint : EndpointValue) (records : List Record) (at : ℕ) → (limit_passed settings log endpoint records at ≡ None) ↔ ReportFits settings log endpoint records at
+none_where_it_fits settings log endpoint records at =
+    let without = memberships_without settings log at in
+    let entered = log ++ Reported endpoint records at ∷ [] in
+    let rows = memberships_now settings entered in (
+      fits_passed settings.limits endpoint records without rows,
+      none_passed settings.limits endpoint records without rows (AreMembershipsAt-memberships_at settings.lifetime (latest entered) entered).ascend,
+    )
+
+-- where a limit is passed, the report doesn't fit
 pub unfit : (settings : TableSettings) (log : List Change) (endpoint : EndpointValue) (records : List Record) (at : ℕ) (fault : LimitFault) → limit_passed settings log endpoint records at ≡ Some fault
-    → IsWithin settings.limits (memberships_now settings (log ++ Reported endpoint records at ∷ [])) → ⊥
-unfit settings log endpoint records at fault passed within =
-    let none = none_passed settings.limits endpoint records (memberships_now settings (log ++ Reported endpoint records at ∷ [])) within in
-    cc
+    → ReportFits settings log endpoint records at → ⊥
+unfit settings log endpoint records at fault passed fits = let none = (none_where_it_fits settings log endpoint records at).1 fits in cc
 
 -- a table that stands for a log has only fresh memberships, so where no time passes nothing changes
 pub no_later : (settings : TableSettings) (table : TableValue) (log : List Change) (at moment : ℕ) (rows : List Membership) → moment ≡ max table.moment at → rows ≡ filter (is_fresh table.lifetime moment) table.rows
-    → Holds settings table log → at ≤ latest log → table_of moment table.limits table.lifetime rows ≡ table
+    → Holds settings table log → at ≤ latest log → table_of moment table rows ≡ table
 no_later settings table log at moment rows is fresh holds before =
     let same = holds.moment in
     let still : moment ≡ table.moment = omega arith in
     let all = fresh ∙ fresh_are settings table log at moment is holds
     ∙ ap (λ (later : ℕ). memberships_at settings.lifetime later log) (omega arith) ∙ sym (rows_are settings.lifetime (latest log) log table.rows holds.rows) in
-    ap (λ (at_last : ℕ). table_of at_last table.limits table.lifetime rows) still ∙ ap (table_of table.moment table.limits table.lifetime) all
+    ap (λ (at_last : ℕ). table_of at_last table rows) still ∙ ap (table_of table.moment table) all

@@ -11,6 +11,7 @@ pub mod Expiry
 pub mod FewRows
 pub mod FilterByRecords
 pub mod FilterMap
+pub mod FittingReports
 pub mod GroupMembers
 pub mod HoldsAfter
 pub mod KeptFilters

@@ -1,10 +1,9 @@
 -- The published log tells what the accepted one does.
-use Rattle.std.proofs.{Common.{◌≡◌, ℕ, ◌≤◌, ◌<◌, ◌⊎◌, max, zero, suc, not, Bool, true, false, List, [], ◌∷◌, ◌++◌, reverse, take, map, Option, Some, None, refl, sym, ap, subst, ◌∙◌, arith, inl, inr, append-nil}, lemmas.{Bool.{cases_Bool}, List.{append_assoc, reverse-append, reverse-reverse}}}
+use Rattle.std.proofs.{Common.{◌≡◌, ℕ, ◌≤◌, ◌<◌, ◌⊎◌, max, zero, suc, not, Bool, true, false, List, [], ◌∷◌, ◌++◌, reverse, take, map, None, refl, sym, ap, subst, ◌∙◌, arith, inl, inr, append-nil}, lemmas.{List.{append_assoc, reverse-append, reverse-reverse}}}
 use Rattle.amt_values.{specs.{declared.address.Ip.{Ip, TheVariants.{V4}}, EndpointValue.{EndpointValue}}, proofs.{Orders.{endpoint_order-exact, endpoint_order-total}, AscendingLaws.{same_ascending}}}
-use Rattle.source_filter.specs.Filter.{admits}
-use Rattle.endpoint_membership.specs.{Admission.{is_admitted}, EndpointGroup.{EndpointGroup}, Log.{brought, latest}, Membership.{Membership}, Memberships.{is_live, membership_at, memberships_at, row_of, rows_of}}
+use Rattle.endpoint_membership.specs.{Admission.{is_admitted}, EndpointGroup.{EndpointGroup}, Log.{latest}, Memberships.{is_live, membership_at, memberships_at, row_of}}
 use Rattle.endpoint_membership.specs.{Published.{AnswerAlike, ClearingsLetNoTimePass, IsPublishedPart, clears_nothing, published_back, published_of, with_published}, Targets.{targets_of}, declared.change.Change.{Change, TheVariants.{Reported, Clear, Mark}}}
-use Rattle.endpoint_membership.proofs.{Clearings.{AreAlike, alike_all, alike_cleared, at_group, reverse-around, unseen}, HoldsAfter.{latest-reverse, reverse-push}, MembershipAt.{admits-membership_at, filter_in, membership_at-other}, MembershipsByLog.{AreMembershipsAt-memberships_at, rows_are}, TargetsByLog.{IsAscending-targets_of, admitted_later, has-targets_of}}
+use Rattle.endpoint_membership.proofs.{Clearings.{AreAlike, alike_all, alike_cleared, at_group, reverse-around, unseen}, HoldsAfter.{latest-reverse, reverse-push}, MembershipAt.{admits-membership_at, membership_at-other}, MembershipsByLog.{AreMembershipsAt-memberships_at, rows_are}, TargetsByLog.{IsAscending-targets_of, admitted_later, has-targets_of}}
 
 -- logs turned round in which every pair has the same membership from now on
 abbrev AllAlike : ℕ → List Change → List Change → Type 0

@@ -1,12 +1,9 @@
 -- What the memberships of an endpoint after its report may be, whatever log the memberships before stood for.
-use Rattle.std.proofs.Common.{◌≡◌, ℕ, ◌+◌, ◌≤◌, ◌<◌, ◌^◌, Bool, true, false, cond, ◌||◌, if◌then◌else◌, List, [], ◌∷◌, ◌++◌, filter, length, length-append, map, Option, Some, None, is_some, sum_by, true≢false, refl, sym, ap, subst, ◌∙◌, arith}
-use Rattle.std.{proofs.lemmas.{Bool.{lt-ltb, or_left, or_right}, Cmp.{eq_by_cmp_equiv, tied_itself}, List.{length-map, Sums.{length-filter}}, Map.{Keys.{IsDistinct-from_sorted}, Made.{length-le_from_is_member}, Views.{tells_apart}}}, specs.{List.{AllByRecursion}, Option.{option_or}, Ordering.{is_eq}}}
+use Rattle.std.{proofs.{Common.{◌≡◌, ℕ, ◌+◌, ◌≤◌, ◌<◌, ◌^◌, Bool, true, false, cond, ◌||◌, if◌then◌else◌, List, [], ◌∷◌, ◌++◌, filter, length, length-append, map, Option, Some, None, is_some, sum_by, true≢false, refl, sym, ap, subst, ◌∙◌, arith}, lemmas.{Bool.{lt-ltb, or_left, or_right}, Cmp.{eq_by_cmp_equiv, tied_itself}, List.{length-map, Sums.{length-filter}}, Map.{Keys.{IsDistinct-from_sorted}, Made.{length-le_from_is_member}, Views.{tells_apart}}}}, specs.{List.{AllByRecursion}, Option.{option_or}, Ordering.{is_eq}}}
 use Rattle.amt_values.{specs.{declared.address.Ip.{Ip}, EndpointValue.{EndpointValue}, Ascending.{IsAscending, has}}, proofs.{Orders.{endpoint_order-exact, endpoint_order-total}, AscendingLaws.{IsAscending-filter, has-append}}}
 use Rattle.source_filter.specs.{Filter.{FilterValue, filter_after_all, wants_any}, Record.{item_count}, declared.record.Record.{Record}}
-use Rattle.endpoint_membership.specs.{Membership.{Membership, is_fresh, membership_order, endpoint_group_of}, declared.limits.Limits.{Limits}, Stored.{only}}
-use Rattle.endpoint_membership.specs.{Limits.{IsWithin, first_limit, group_count, size}, EndpointMemberships.{AreGone, AreOwn, filter_or_nothing, membership_of_renewed, renewed_filter_after_all, renewed_filter_of}, Log.{on_group}}
-use Rattle.endpoint_membership.{specs.{EndpointGroup.{EndpointGroup, endpoint_group_order, same_endpoint}, Memberships.{endpoint_groups_of, membership_in}, Table.{AreLawful}}, proofs.ReportBounds.{All-at, given_by, sources-filter_after_all, sum_by-on_group}}
-use Rattle.endpoint_membership.proofs.{EndpointGroupOrder.{endpoint_group_order-total}, MembershipsByLog.{membership_by, on_group-none}, MembershipIn.{has-pairs, All-from_membership_in, IsAscending-pairs, GivesItsEndpointGroup-membership_in, cond_by, membership_in-filter, membership_in-where}, AfterReport.{AreAfterReport, renewed_filter_after_all-is}, AfterEntries.{membership_in-of}, WithinLimits.{IsWithin-filter, IsWithin-report}}
+use Rattle.endpoint_membership.specs.{Membership.{Membership, is_fresh, membership_order, endpoint_group_of}, declared.limits.Limits.{Limits}, Stored.{only}, Limits.{IsWithin, first_limit, group_count, size, AreAtMost}, EndpointMemberships.{AreGone, AreOwn, filter_or_nothing, membership_of_renewed, renewed_filter_after_all, renewed_filter_of}, Log.{on_group}, EndpointGroup.{EndpointGroup, endpoint_group_order, same_endpoint}, Memberships.{endpoint_groups_of, membership_in}, Table.{AreLawful}}
+use Rattle.endpoint_membership.proofs.{ReportBounds.{All-at, given_by, sources-filter_after_all, sum_by-on_group}, EndpointGroupOrder.{endpoint_group_order-total}, MembershipsByLog.{membership_by, on_group-none}, MembershipIn.{has-pairs, All-from_membership_in, IsAscending-pairs, GivesItsEndpointGroup-membership_in, cond_by, membership_in-filter, membership_in-where}, AfterReport.{AreAfterReport, renewed_filter_after_all-is}, AfterEntries.{membership_in-of}, WithinLimits.{IsWithin-filter, IsWithin-report, fits_passed}}
 
 abbrev endpoint_group : EndpointValue → Ip → EndpointGroup
 endpoint_group endpoint group = record { endpoint = endpoint; group = group }
@@ -153,11 +150,12 @@ module _ (lifetime moment : ℕ) (endpoint : EndpointValue) (records : List Reco
         (not_gone (has endpoint_group_order gone at) (same_endpoint at.endpoint endpoint) apart (left.of at)) (membership_in-of endpoint own at owned.ascends owned.of apart))));
   }
 
-  -- memberships within the limits stay so by a report that passes none
-  pub IsWithin-reported : (limits : Limits) (after : List Membership) → IsAscending membership_order rows → AreAfterReport lifetime moment endpoint rows own after → IsWithin limits rows
-      → first_limit limits endpoint records after ≡ None → IsWithin limits after
-  IsWithin-reported limits after ascends are within none =
-      IsWithin-report limits endpoint records (filter test rows) after (IsAscending-filter membership_order test rows ascends) are.ascend (IsWithin-filter limits test rows within) none
+  -- memberships within the limits stay so by a report that passes none of those in force
+  pub IsWithin-reported : (given limits : Limits) (after : List Membership) → IsAscending membership_order rows → AreAfterReport lifetime moment endpoint rows own after → AreAtMost given limits → IsWithin given rows
+      → first_limit limits endpoint records (filter test rows) after ≡ None → IsWithin given after
+  IsWithin-reported given limits after ascends are less within none =
+      IsWithin-report given limits endpoint records (filter test rows) after (IsAscending-filter membership_order test rows ascends) are.ascend less (IsWithin-filter given test rows within)
+      (fits_passed limits endpoint records (filter test rows) after none)
       (λ at apart. are.each at ∙ ap (λ (here : Bool). if here then membership_in own at else only test (membership_in rows at)) apart ∙ sym (membership_in-filter test rows at ascends))
       (λ group membership silent found. membership_in-filter test rows (endpoint_group endpoint group) ascends
       ∙ (own_row (endpoint_group endpoint group) membership

@@ -1,10 +1,10 @@
 -- The memberships of one endpoint after its report, as a table finds them. No public contract says
 -- these words.
-use Rattle.std.specs.{Prelude.{◌≡◌, ℕ, Bool, true, false, List, [], ◌∷◌, Option, Some, None, ◌&&◌, length, nat_lt, if◌then◌else◌}, List.{AllByRecursion, list_any}, Option.{option_map}}
+use Rattle.std.specs.{Prelude.{◌≡◌, ℕ, ◌+◌, ◌==◌, max, Bool, true, false, List, [], ◌∷◌, Option, Some, None, ◌&&◌, length, nat_lt, if◌then◌else◌}, List.{AllByRecursion, filter, find}, Option.{option_map}}
 use Rattle.amt_values.specs.{declared.address.Ip.{Ip}, EndpointValue.{EndpointValue}, Ascending.{IsAscending, has}, Conditions.{first_holding, first_of}}
 use Rattle.source_filter.specs.{Filter.{FilterValue, filter_after, nothing, wants_any}, declared.record.Record.{Record}}
-use Rattle.endpoint_membership.specs.{EndpointGroup.{EndpointGroup, endpoint_group_order, same_endpoint, same_group}, Limits.{count_conditions, size}, Log.{on_group}, Membership.{Membership, is_fresh, membership_order}}
-use Rattle.endpoint_membership.specs.{Memberships.{membership_in, membership_of}, Stored.{only}, declared.{after_report.RenewedFilter.{RenewedFilter}, limits.{LimitFault.{LimitFault, TheVariants.{Sources}}, Limits.{Limits}}}}
+use Rattle.endpoint_membership.specs.{EndpointGroup.{EndpointGroup, endpoint_group_order, same_endpoint}, Limits.{count_conditions, is_reported, live_count, raised, size, size_at}, Log.{on_group}, Membership.{Membership, endpoint_group_of, is_fresh, membership_order}}
+use Rattle.endpoint_membership.specs.{Memberships.{membership_in, membership_of}, Stored.{is_counted, only}, declared.{after_report.RenewedFilter.{RenewedFilter}, limits.{LimitFault.{LimitFault, TheVariants.{Sources}}, Limits.{Limits}}}}
 
 -- the filter of a membership, and when it was renewed
 abbrev pub renewed_filter_of : Option Membership → Option RenewedFilter
@@ -40,10 +40,10 @@ membership_of_renewed endpoint group (Some renewed_filter) = membership_of_entry
 abbrev pub AreOf : EndpointValue → List Membership → Type 0
 AreOf endpoint rows = AllByRecursion (λ membership. same_endpoint membership.endpoint endpoint ≡ true) rows
 
--- a membership in a reported group with more sources than allowed
-abbrev pub is_over : ℕ → List Record → Membership → Bool
-is_over most records membership =
-    nat_lt most (length membership.filter.sources) && list_any (λ group_record. same_group membership.group group_record.group) records
+-- a membership in a reported group with more sources than allowed, and than before the report
+abbrev pub is_over : ℕ → List Membership → List Record → Membership → Bool
+is_over most before records membership =
+    nat_lt (max most (size_at before (endpoint_group_of membership))) (size membership) && is_reported records membership.group
 
 -- the limit that a membership passes which has too many sources
 abbrev pub width_fault : Membership → LimitFault
@@ -53,6 +53,17 @@ width_fault membership = Sources membership.group (size membership)
 -- by the numbers of groups and endpoints
 abbrev pub limit_by : Limits → ℕ → ℕ → Option Membership → Option LimitFault
 limit_by limits groups endpoints wide = first_of (option_map width_fault wide) (first_holding (count_conditions limits groups endpoints))
+
+-- how many endpoints are live where one has this many groups, and these others are live
+abbrev pub live_with : ℕ → ℕ → ℕ
+live_with others groups = others + (if groups == 0 then 0 else 1)
+
+-- the first limit that a report passes, by all memberships before it, how many of these are its
+-- endpoint's and still count, and the endpoint's memberships after it
+abbrev pub limit_by_own : ℕ → ℕ → Limits → EndpointValue → List Record → List Membership → ℕ → List Membership → Option LimitFault
+limit_by_own lifetime moment limits endpoint records rows before own =
+    let others = live_count (filter (is_counted lifetime moment endpoint) rows) in
+    limit_by (raised limits before (live_with others before)) (length own) (live_with others (length own)) (find (is_over limits.sources (filter (is_fresh lifetime moment) rows) records) own)
 
 -- the memberships of an endpoint after its report, from all memberships before it
 pub record AreOwn (lifetime moment : ℕ) (endpoint : EndpointValue) (records : List Record) (rows own : List Membership) : Type 0 where

@@ -2,7 +2,7 @@
 -- without a membership changes no membership, then or later, so no replica needs it.
 use Rattle.std.specs.Prelude.{◌≡◌, ℕ, ◌≤◌, max, not, Bool, false, List, [], ◌∷◌, ◌++◌, reverse, if◌then◌else◌}
 use Rattle.amt_values.specs.{declared.address.Ip.{Ip}, EndpointValue.{EndpointValue}}
-use Rattle.endpoint_membership.specs.{Admission.{is_admitted}, EndpointGroup.{EndpointGroup}, Log.{latest}, Membership.{Membership}, Memberships.{is_live, memberships_at, rows_of}, Targets.{targets_of}, declared.change.Change.{Change, TheVariants.{Reported, Clear, Mark}}}
+use Rattle.endpoint_membership.specs.{Admission.{is_admitted}, EndpointGroup.{EndpointGroup}, Log.{latest}, Memberships.{is_live, memberships_at, rows_of}, Targets.{targets_of}, declared.change.Change.{Change, TheVariants.{Reported, Clear, Mark}}}
 
 -- the entry clears an endpoint that has no membership at its moment, by the log before it
 abbrev pub clears_nothing : ℕ → List Change → Change → Bool

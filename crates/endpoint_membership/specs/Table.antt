@@ -1,13 +1,15 @@
 -- What a membership table stands for.
-use Rattle.std.specs.Prelude.{◌≡◌, ℕ, ◌≤◌, ◌++◌, ◌∷◌, [], List, Option, Result, Ok, Err, reverse}
+use Rattle.std.specs.Prelude.{◌≡◌, ℕ, ◌≤◌, max, ◌++◌, ◌∷◌, [], List, Option, Result, Ok, Err, reverse}
 use Rattle.amt_values.specs.{EndpointValue.{EndpointValue}, Ascending.{IsAscending}}
 use Rattle.source_filter.specs.declared.record.Record.{Record}
-use Rattle.endpoint_membership.specs.{EndpointGroup.{EndpointGroup}, Limits.{IsWithin, first_limit}, Log.{latest}, Membership.{Membership, membership_order}, Memberships.{membership_at, membership_in, memberships_at}, declared.{change.Change.{Change, TheVariants.{Reported}}, limits.{AcceptFault.{AcceptFault, TheVariants.{Limit, Memory}}, LimitFault.{LimitFault}, Limits.{Limits}}}}
+use Rattle.endpoint_membership.specs.{EndpointGroup.{EndpointGroup}, Limits.{Fits, IsWithin, first_limit}, Log.{latest}, Membership.{Membership, membership_order}, Memberships.{membership_at, membership_in, memberships_at}, declared.{change.Change.{Change, TheVariants.{Reported}}, limits.{AcceptFault.{AcceptFault, TheVariants.{Limit, Memory}}, LimitFault.{LimitFault}, Limits.{Limits}}}}
 
--- what contracts see of a table: the moment, the memberships, and how it was made
+-- what contracts see of a table: the moment, the memberships, how it was made, and the limits by which
+-- reports are judged now
 pub record TableValue : Type 0 where
   pub moment : ℕ
   pub limits : Limits
+  pub in_force : Limits
   pub lifetime : ℕ
   pub rows : List Membership
 
@@ -36,7 +38,7 @@ ForLogBy settings table Fact = (log : List Change) → Holds settings table log 
 abbrev pub ForLog : TableValue → (TableSettings → List Change → Type 0) → Type 0
 ForLog table Fact = (settings : TableSettings) → ForLogBy settings table (Fact settings)
 
--- what the table keeps is within its limits
+-- what the table keeps is within the limits that it was made with
 abbrev pub IsWithinLimits : TableValue → Type 0
 IsWithinLimits table = IsWithin table.limits table.rows
 
@@ -52,10 +54,27 @@ pub record AreLawful (limits : Limits) (lifetime : ℕ) : Type 0 where
   pub groups : limits.groups ≤ 16777216
   pub sources : limits.sources ≤ 16777216
 
--- the limit that a report passes, by the log with the report
+-- the settings with the limits in force, by which reports are judged
+abbrev pub in_force_of : TableSettings → TableValue → TableSettings
+in_force_of settings table = record settings { limits = table.in_force }
+
+-- the memberships by the log at the moment of a report, without the report
+abbrev pub memberships_without : TableSettings → List Change → ℕ → List Membership
+memberships_without settings log at = memberships_at settings.lifetime (max at (latest log)) log
+
+-- the memberships by the log with a report
+abbrev pub memberships_with : TableSettings → List Change → EndpointValue → List Record → ℕ → List Membership
+memberships_with settings log endpoint records at = memberships_now settings (log ++ Reported endpoint records at ∷ [])
+
+-- by the log, the report fits the limits
+abbrev pub ReportFits : TableSettings → List Change → EndpointValue → List Record → ℕ → Type 0
+ReportFits settings log endpoint records at =
+    Fits settings.limits endpoint records (memberships_without settings log at) (memberships_with settings log endpoint records at)
+
+-- the limit that a report passes, by the log without it and with it
 abbrev pub limit_passed : TableSettings → List Change → EndpointValue → List Record → ℕ → Option LimitFault
 limit_passed settings log endpoint records at =
-    first_limit settings.limits endpoint records (memberships_now settings (log ++ Reported endpoint records at ∷ []))
+    first_limit settings.limits endpoint records (memberships_without settings log at) (memberships_with settings log endpoint records at)
 
 -- what holds where a limit refused a report
 abbrev pub OnLimit : Result (Unit {0}) AcceptFault → (LimitFault → Type 0) → Type 0

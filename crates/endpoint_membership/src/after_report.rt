@@ -1,8 +1,8 @@
 //! The memberships of an endpoint after its report.
 
-ghost use Rattle.std.specs.{Prelude.{◌≡◌, ◌≤◌, [], ◌∷◌, IfOk, OnOk, Some, if◌then◌else◌}, BTreeMap.{get, IsOrdered}, List.{filter_map}};
+ghost use Rattle.std.specs.{Prelude.{◌≡◌, ◌≤◌, [], ◌∷◌, IfOk, OnOk, Some, if◌then◌else◌}, BTreeMap.{get, IsOrdered}, List.{filter, filter_map}};
 ghost use Rattle.amt_values.specs.{declared.address.Ip.{Ip as Address}, Order.{ip_order}};
-ghost use Rattle.endpoint_membership.specs.{EndpointMemberships.{AreGone, AreOwn, gone_of_entry, membership_of_entry, renewed_filter_after_all}, Effective.{IsInOrder, lent}, Log.{on_group}, EndpointGroup.{same_group}};
+ghost use Rattle.endpoint_membership.specs.{EndpointMemberships.{AreGone, AreOwn, gone_of_entry, membership_of_entry, renewed_filter_after_all}, Effective.{IsInOrder, lent}, Limits.{group_count}, Log.{on_group}, EndpointGroup.{same_group}, Membership.{is_fresh}};
 ghost use Rattle.source_filter.specs.Filter.{wants_any};
 
 use crate::effective::effective_records;
@@ -14,10 +14,11 @@ use source_filter::{Filter, MutableFilter, Record, Records};
 use std::alloc::{AllocError, Global};
 use std::collections::{BTreeMap, VecDeque};
 
-/// The memberships of an endpoint after its report, by group, and its pairs of which nothing is
-/// wanted any more.
+/// The memberships of an endpoint after its report, by group, its pairs of which nothing is wanted any
+/// more, and how many memberships it has without the report.
 #[derive(Debug, Drop)]
 pub struct OwnAfter {
+    pub before: usize,
     pub memberships: Vec<OwnMembership>,
     pub gone: Vec<EndpointGroup>,
 }
@@ -178,8 +179,10 @@ fn membership_of(
 fn memberships_of_filters(
     alloc: Global,
     endpoint: &Endpoint,
+    before: usize,
     filters: BTreeMap<Ip, RenewedFilter>,
 ) -> Result<OwnAfter, AllocError>
+    ensures before { IfOk result (λ after. after.before ≡ before) }
     ensures rows { IfOk result (λ after. after.memberships.items
         ≡ filter_map (membership_of_entry endpoint.now) filters.entries) }
     ensures gone { IfOk result
@@ -198,7 +201,11 @@ fn memberships_of_filters(
             })?;
         }
     }
-    Ok(OwnAfter { memberships, gone })
+    Ok(OwnAfter {
+        before,
+        memberships,
+        gone,
+    })
 }
 
 // The memberships of the endpoint after its records, by group.
@@ -220,8 +227,11 @@ pub fn memberships_after(
         rows.now after.memberships.items) }
     ensures gone { IfOk result (λ after. AreGone lifetime_ms moment endpoint.now rows.now
         after.memberships.items after.gone.items) }
+    ensures before { IfOk result (λ after. after.before
+        ≡ group_count endpoint.now (filter (is_fresh lifetime_ms moment) rows.now)) }
 {
     let mut filters = rows.own_filters(alloc, endpoint, moment, lifetime_ms)?;
+    let before = filters.len();
     apply_records(alloc, &mut filters, records.as_slice(), moment)?;
-    memberships_of_filters(alloc, endpoint, filters)
+    memberships_of_filters(alloc, endpoint, before, filters)
 }

@@ -1,8 +1,8 @@
 //! What the definitions of a membership table mean in the words of the field.
 ghost use Rattle.std.specs.Prelude.{ℕ, ◌≡◌, ◌≤◌, ◌<◌, ◌↔◌, max, true, false, List, [], ◌∷◌, ◌++◌, reverse, Some, None, Contains};
 ghost use Rattle.amt_values.specs.{declared.address.Ip.{Ip}, Order.{endpoint_order}, EndpointValue.{EndpointValue}, Ascending.{IsAscending}};
-ghost use Rattle.source_filter.specs.Filter.{admits};
-ghost use Rattle.endpoint_membership.specs.{Admission.{HasNoMembership, is_admitted, rows_admit}, Chain.{IsLongestChain}, Log.{latest, live_chain}, EndpointGroup.{EndpointGroup}, Memberships.{is_live, rows_of, membership_at, memberships_at}, Targets.{targets_of}, declared.change.Change.{Change, TheVariants.{Clear, Mark}}, Membership.{Membership}};
+ghost use Rattle.source_filter.specs.{Filter.{admits}, declared.record.Record.{Record}};
+ghost use Rattle.endpoint_membership.specs.{Admission.{HasNoMembership, is_admitted, rows_admit}, Chain.{IsLongestChain}, Limits.{AreAtMost, IsWithin}, Log.{latest, live_chain}, EndpointGroup.{EndpointGroup}, Memberships.{is_live, rows_of, membership_at, memberships_at}, Targets.{targets_of}, Table.{ReportFits, TableSettings, limit_passed, memberships_now, memberships_with}, declared.{change.Change.{Change, TheVariants.{Clear, Mark}}, limits.Limits.{Limits}}, Membership.{Membership}};
 
 /// A membership lasts as long as reports renew it in time (RFC 3376, section 8.4): what counts of an
 /// endpoint in a group is the longest run of its newest renewals in which no gap, and none up to the
@@ -67,4 +67,20 @@ pub fn clearings_change_nothing_where_none_is_live()
         → latest (log ++ Clear endpoint at ∷ later) ≤ moment
         → rows_of lifetime moment (log ++ Clear endpoint at ∷ later)
         ≡ rows_of lifetime moment (log ++ Mark at ∷ later) }
+{}
+
+/// A report passes no limit exactly where it fits: where it leaves no more than the limits, or no more
+/// than there would be without it. So where memberships are within a table's limits, they stay so by
+/// reports that fit limits no greater.
+pub fn reports_that_fit_pass_no_limit()
+    ensures none { (settings : TableSettings) (log : List Change) (endpoint : EndpointValue)
+        (records : List Record) (at : ℕ)
+        → (limit_passed settings log endpoint records at ≡ None)
+        ↔ ReportFits settings log endpoint records at }
+    ensures within { (settings : TableSettings) (limits : Limits) (log : List Change)
+        (endpoint : EndpointValue) (records : List Record) (at : ℕ)
+        → AreAtMost settings.limits limits
+        → IsWithin settings.limits (memberships_now settings log)
+        → ReportFits (record settings { limits = limits }) log endpoint records at
+        → IsWithin settings.limits (memberships_with settings log endpoint records at) }
 {}

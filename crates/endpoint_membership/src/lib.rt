@@ -24,7 +24,7 @@ mod targets;
 pub use change::Change;
 pub use laws::{
     clearings_change_nothing_where_none_is_live, live_chains_are_longest,
-    rows_admit_by_the_newest_record, targets_are_those_that_want,
+    reports_that_fit_pass_no_limit, rows_admit_by_the_newest_record, targets_are_those_that_want,
 };
 pub use limits::{AcceptFault, LimitFault, Limits};
 pub use published::{

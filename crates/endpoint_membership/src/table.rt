@@ -1,16 +1,15 @@
 //! The membership table.
 
-ghost use Rattle.std.specs.{Prelude.{◌≡◌, ◌<◌, ◌≤◌, ◌↔◌, ◌+◌, ◌^◌, [], ◌∷◌, ◌++◌, max, true, false, length, Some, None, Contains, IfOk, OnOk, if◌then◌else◌}, List.{AllByRecursion, filter, find}};
+ghost use Rattle.std.specs.{Prelude.{◌≡◌, ◌<◌, ◌≤◌, ◌↔◌, ◌^◌, [], ◌∷◌, ◌++◌, max, true, false, length, Some, None, Contains, IfOk, OnOk}, List.{AllByRecursion, filter}};
 ghost use Rattle.amt_values.specs.{Order.{endpoint_order}, EndpointValue.{EndpointValue}, Ascending.{IsAscending}};
 ghost use Rattle.source_filter.specs.Record.{item_count};
-ghost use Rattle.endpoint_membership.specs.{Admission.{is_admitted}, Stored.{is_counted}, Limits.{AreFew, IsWithin, live_count, size}, EndpointMemberships.{limit_by, AreGone, AreOwn, is_over}, Log.{is_empty, latest}};
-ghost use Rattle.endpoint_membership.specs.{Memberships.{is_live, rows_of, memberships_at}, Table.{ForLog, Holds, IsWithinLimits, OnLimit, OnMemory, limit_passed, memberships_now}, Targets.{targets_of}, declared.change.Change.TheVariants.{Clear, Mark, Reported}};
+ghost use Rattle.endpoint_membership.specs.{Admission.{is_admitted}, Limits.{AreFew, AreWithin, IsWithin, group_count, live_count, size}, EndpointMemberships.{limit_by_own, AreGone, AreOwn}, Log.{latest}, Membership.{is_fresh}};
+ghost use Rattle.endpoint_membership.specs.{Memberships.{is_live, rows_of, memberships_at}, Table.{ForLog, Holds, IsWithinLimits, OnLimit, OnMemory, ReportFits, in_force_of, limit_passed, memberships_now}, Targets.{targets_of}, declared.change.Change.TheVariants.{Clear, Mark, Reported}};
 
 use crate::after_report::{OwnAfter, memberships_after};
-use crate::first_limit::limit_passed;
+use crate::first_limit::{Counts, count_passed, find_over, width_fault};
 use crate::limits::{AcceptFault, LimitFault, Limits};
 use crate::parts::StoredMemberships;
-use crate::parts::live::one_unless;
 use crate::row::Rows;
 use crate::stored::OwnMembership;
 use crate::targets::Targets;
@@ -29,7 +28,10 @@ mod absorb;
 #[derive(Debug, Drop)]
 pub struct Table {
     moment: Moment,
+    // The greatest that may be in force.
     limits: Limits,
+    // By these reports are judged.
+    in_force: Limits,
     lifetime_ms: u64,
     // By endpoint, then group.
     rows: StoredMemberships,
@@ -37,30 +39,33 @@ pub struct Table {
 
 impl Model for Table {
     ghost use Rattle.amt_values.specs.Ascending.{IsAscending};
-    ghost use Rattle.endpoint_membership.specs.{Membership.{membership_order}, Table.{AreLawful, TableValue}};
+    ghost use Rattle.endpoint_membership.specs.{Limits.{AreAtMost}, Membership.{membership_order}, Table.{AreLawful, TableValue}};
 
     ghost Value = { TableValue };
 
-    ghost view = { λ t. record { moment = t.moment; limits = t.limits; lifetime = t.lifetime_ms; rows = t.rows } };
+    ghost view = { λ t. record { moment = t.moment; limits = t.limits; in_force = t.in_force; lifetime = t.lifetime_ms; rows = t.rows } };
 
-    ghost invariant = { λ t. AreLawful t.limits t.lifetime_ms × IsAscending membership_order t.rows };
+    ghost invariant = { λ t. AreLawful t.limits t.lifetime_ms × IsAscending membership_order t.rows × AreAtMost t.limits t.in_force };
 
     // Nothing is kept beside what contracts see.
-    ghost inverse = { λ v. record { moment = v.moment; limits = v.limits; lifetime_ms = v.lifetime; rows = v.rows } };
+    ghost inverse = { λ v. record { moment = v.moment; limits = v.limits; in_force = v.in_force; lifetime_ms = v.lifetime; rows = v.rows } };
 }
 
 impl Table {
     ghost use Rattle.endpoint_membership.specs.Table.{AreLawful};
 
-    /// An empty table at moment 0, with a lifetime in milliseconds.
+    /// An empty table at moment 0, with a lifetime in milliseconds. Its limits are in force until
+    /// others are set.
     pub fn new(alloc: Global, limits: Limits, lifetime_ms: u64) -> Result<Table, AllocError>
         requires { AreLawful limits lifetime_ms }
         ensures stands { IfOk result (λ table. Holds (record { limits = limits; lifetime = lifetime_ms }) table []) }
         ensures within { IfOk result IsWithinLimits }
+        ensures in_force { IfOk result (λ table. table.in_force ≡ limits) }
     {
         Ok(Table {
             moment: Moment::new(0).unwrap(),
             limits,
+            in_force: limits,
             lifetime_ms,
             rows: StoredMemberships::new(alloc),
         })
@@ -74,11 +79,20 @@ impl Table {
         self.moment
     }
 
-    /// How much it keeps.
+    /// The limits in force, by which reports are judged. More may be kept, where they were lowered,
+    /// but never more than the limits given to `new`.
     pub fn limits(&self) -> Limits
-        ensures { result ≡ self.now.limits }
+        ensures { result ≡ self.now.in_force }
     {
-        self.limits
+        self.in_force
+    }
+
+    /// Puts other limits in force. Nothing that is kept is dropped, and nothing else changes.
+    pub fn set_limits(&mut self, limits: &Limits)
+        requires { AreWithin self.old.limits limits.now }
+        ensures { self.new ≡ record self.old { in_force = limits.now } }
+    {
+        self.in_force = *limits;
     }
 
     /// Lets time pass: what was not renewed in time ends.
@@ -87,6 +101,7 @@ impl Table {
             Holds settings self.new (log ++ Mark at.now ∷ [])) }
         ensures same { ForLog self.old (λ settings log. at.now ≤ latest log → self.new ≡ self.old) }
         ensures within { IsWithinLimits self.old → IsWithinLimits self.new }
+        ensures force { self.new.in_force ≡ self.old.in_force }
     {
         self.moment = self.moment.later(at);
         self.rows.purge(self.moment, self.lifetime_ms);
@@ -102,6 +117,7 @@ impl Table {
         ensures same { ForLog self.old (λ settings log.
             at.now ≤ latest log → result ≡ false → self.new ≡ self.old) }
         ensures within { IsWithinLimits self.old → IsWithinLimits self.new }
+        ensures force { self.new.in_force ≡ self.old.in_force }
     {
         self.moment = self.moment.later(at);
         self.rows.purge(self.moment, self.lifetime_ms);
@@ -130,7 +146,7 @@ impl Table {
 
     /// Who gets a copy of a packet from the source to the group, at the later of the table's moment
     /// and this one (RFC 7450, section 5.3.3). What was in `out` before is replaced. Room for as
-    /// many endpoints as the limits allow is always enough.
+    /// many endpoints as the limits given to `new` allow is always enough.
     pub fn admitting_into(&self, group: &Ip, source: &Ip, at: &Moment, out: &mut Targets)
         requires room { live_count self.now.rows ≤ out.old.room }
         ensures targets { ForLog self.now (λ settings log.
@@ -161,6 +177,8 @@ impl Table {
             self.now.rows after.memberships.items) }
         ensures gone { IfOk result (λ after. AreGone self.now.lifetime moment endpoint.now
             self.now.rows after.memberships.items after.gone.items) }
+        ensures before { IfOk result (λ after. after.before ≡ group_count endpoint.now
+            (filter (is_fresh self.now.lifetime moment) self.now.rows)) }
     {
         memberships_after(
             alloc,
@@ -172,32 +190,40 @@ impl Table {
         )
     }
 
-    // The first limit that a report passes, if these are its endpoint's memberships afterwards.
+    // The first limit in force that a report passes, if its endpoint has so many memberships without it,
+    // and these afterwards.
     fn limit_passed(
         &self,
         endpoint: &Endpoint,
         records: &Records,
+        before: usize,
         own: &[OwnMembership],
         moment: Moment,
     ) -> Option<LimitFault>
         requires within { IsWithinLimits self.now }
         requires groups { length own.now < 2 ^ 32 }
         requires sources { AllByRecursion (λ membership. size membership < 2 ^ 32) own.now }
-        ensures { result ≡ limit_by self.now.limits (length own.now)
-            (live_count (filter (is_counted self.now.lifetime moment endpoint.now) self.now.rows)
-            + (if is_empty own.now then 0 else 1))
-            (find (is_over self.now.limits.sources records.now) own.now) }
+        ensures { result ≡ limit_by_own self.now.lifetime moment self.now.in_force endpoint.now
+            records.now self.now.rows before own.now }
     {
-        let others = self.rows.count_live(endpoint, moment, self.lifetime_ms);
-        let live = others + one_unless(own.is_empty());
-        limit_passed(&self.limits, own, records.as_slice(), live)
+        let all = records.as_slice();
+        let most = self.in_force.sources;
+        match find_over(&self.rows, own, all, most, moment, self.lifetime_ms) {
+            Some(membership) => Some(width_fault(membership)),
+            None => {
+                let others = self.rows.count_live(endpoint, moment, self.lifetime_ms);
+                let without = Counts::new(before, others);
+                count_passed(&self.in_force, without, Counts::new(own.len(), others))
+            }
+        }
     }
 
     /// Applies the records of a report in their order, or none of them.
     ///
-    /// The limits are tried on the memberships that there would be afterwards: first the sizes of
-    /// reported groups, then the endpoint's groups, then the live endpoints. A report that passes a
-    /// limit lets time pass and changes nothing else.
+    /// The limits in force are tried on the memberships that there would be afterwards: first the sizes
+    /// of reported groups, then the endpoint's groups, then the live endpoints. What is no more than it
+    /// would be without the report passes none, so lowered limits refuse only what would grow. A report
+    /// that passes a limit lets time pass and changes nothing else.
     pub fn accept(
         &mut self,
         alloc: Global,
@@ -208,12 +234,14 @@ impl Table {
         requires within { IsWithinLimits self.old }
         requires items { item_count records.now ≤ 16777216 }
         ensures passes { ForLog self.old (λ settings log.
-            OnOk result (limit_passed settings log endpoint.now records.now at.now ≡ None)) }
+            OnOk result (limit_passed (in_force_of settings self.old) log
+            endpoint.now records.now at.now ≡ None)) }
         ensures stands { ForLog self.old (λ settings log. OnOk result (
             Holds settings self.new (log ++ Reported endpoint.now records.now at.now ∷ []))) }
 
         ensures limit { ForLog self.old (λ settings log. OnLimit result (λ fault.
-            limit_passed settings log endpoint.now records.now at.now ≡ Some fault)) }
+            limit_passed (in_force_of settings self.old) log
+            endpoint.now records.now at.now ≡ Some fault)) }
         ensures marks { ForLog self.old (λ settings log.
             OnLimit result (λ _. Holds settings self.new (log ++ Mark at.now ∷ []))) }
         ensures same { ForLog self.old (λ settings log.
@@ -225,19 +253,30 @@ impl Table {
             IsWithin settings.limits (memberships_now settings
             (log ++ Reported endpoint.now records.now at.now ∷ [])))) }
         ensures fits_not { ForLog self.old (λ settings log. OnLimit result (λ _.
-            IsWithin settings.limits (memberships_now settings
-            (log ++ Reported endpoint.now records.now at.now ∷ [])) → ⊥)) }
+            ReportFits (in_force_of settings self.old) log endpoint.now records.now at.now → ⊥)) }
+        ensures force { self.new.in_force ≡ self.old.in_force }
     {
         let moment = self.moment.later(at);
         let after = match self.own_after(alloc, endpoint, records, moment) {
             Ok(after) => after,
             Err(_) => return Err(AcceptFault::Memory),
         };
-        if let Some(fault) = self.limit_passed(endpoint, records, &after.memberships, moment) {
+        let before = after.before;
+        if let Some(fault) = self.limit_passed(
+            endpoint,
+            records,
+            before,
+            &after.memberships,
+            moment,
+        ) {
             self.advance(at);
             return Err(AcceptFault::Limit(fault));
         }
-        let OwnAfter { memberships, gone } = after;
+        let OwnAfter {
+            memberships,
+            gone,
+            ..
+        } = after;
         match self.rows.replace(alloc, memberships, &gone) {
             Ok(()) => {}
             Err(_) => return Err(AcceptFault::Memory),

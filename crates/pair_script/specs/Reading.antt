@@ -2,7 +2,7 @@
 use Rattle.std.specs.{Prelude.{◌≡◌, ℕ, List, []}, List.{AllByRecursion}}
 use Rattle.amt_script.specs.{Reading.{IsAllowed}, declared.{script.RelayItem.{RelayItem}, setting.Setting.{Setting}}}
 use Rattle.amt_script.specs.declared.script.RelayItem.TheVariants as relay_items
-use Rattle.relay_machine.specs.declared.event.Event.{Event, TheVariants.{Datagram, Moment, Packet, Rotate}}
+use Rattle.relay_machine.specs.declared.event.Event.{Event, TheVariants.{Datagram, Limits, Moment, Packet, Rotate}}
 use Rattle.script_lines.specs.{Form.{IsMomentText}, Shape.{HasField}}
 use Rattle.pair_script.specs.{Script.{gateways_in, items_in, settings_in}, declared.{script.{PairGateway.{PairGateway}, PairItem.{PairItem}}, statement.PairStatement.{PairStatement}}}
 
@@ -13,16 +13,17 @@ pub record AreThose (given : List Setting) (gateways : List PairGateway) (items 
   pub items_are : items ≡ items_in said
   pub allowed : AllByRecursion IsAllowed given
 
--- the event is no datagram that comes to a relay
-abbrev pub IsNoDatagram : Event → Type 0
-IsNoDatagram (Moment at) = Unit {0}
-IsNoDatagram (Datagram bytes from) = ⊥
-IsNoDatagram (Packet bytes) = Unit {0}
-IsNoDatagram (Rotate secret) = Unit {0}
+-- scripts of a pair have the event too: it is no datagram that comes to a relay, and no new limits
+abbrev pub IsSharedEvent : Event → Type 0
+IsSharedEvent (Moment at) = Unit {0}
+IsSharedEvent (Datagram bytes from) = ⊥
+IsSharedEvent (Packet bytes) = Unit {0}
+IsSharedEvent (Rotate secret) = Unit {0}
+IsSharedEvent (Limits limits) = ⊥
 
--- scripts of a pair have the item too
+-- and the item
 abbrev pub IsSharedItem : RelayItem → Type 0
-IsSharedItem (relay_items.Event event) = IsNoDatagram event
+IsSharedItem (relay_items.Event event) = IsSharedEvent event
 IsSharedItem relay_items.Show = Unit {0}
 
 -- the fields are one, and its text is that of the number

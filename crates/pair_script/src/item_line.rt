@@ -6,7 +6,7 @@ ghost use Rattle.amt_values.specs.Conditions.{First};
 ghost use Rattle.amt_script.specs.{Fault.{FailsAs as RelayFails}, Says.{SaysItem as RelaySays}};
 ghost use Rattle.amt_script.specs.declared.kind.Kind.TheVariants as kinds;
 ghost use Rattle.script_lines.specs.{Form.{IsMomentText}, Lines.{fields}, Reading.{FailsFirst}};
-ghost use Rattle.pair_script.specs.{Fault.{FailsAsNumber, order_of_reasons}, Opening.{opening_word}, Reading.{IsNoDatagram, IsNumberOf, IsSharedItem}, Says.{SaysEventAfter, SaysItemAfter}, declared.script.PairGateway.{PairGateway as GatewayValue}};
+ghost use Rattle.pair_script.specs.{Fault.{FailsAsNumber, order_of_reasons}, Opening.{opening_word}, Reading.{IsNumberOf, IsSharedEvent, IsSharedItem}, Says.{SaysEventAfter, SaysItemAfter}, declared.script.PairGateway.{PairGateway as GatewayValue}};
 ghost use Rattle.amt_script.specs.declared.script.RelayItem.TheVariants as relay_items;
 ghost use Rattle.pair_script.specs.declared.opening.Opening.TheVariants as openings;
 
@@ -17,9 +17,9 @@ use relay_machine::Event;
 use script_lines::{LineError, Reason, only_field, read_moment};
 use std::alloc::Global;
 
-// What a line of a relay's script says of a pair. No line of a pair's script says a datagram.
+// What a line of a relay's script says of a pair. No line of a pair's script says a datagram or new limits.
 fn shared_event(event: Event) -> PairEvent
-    requires { IsNoDatagram event }
+    requires { IsSharedEvent event }
     ensures { (gateways : List GatewayValue) (line : List (List ℕ)) → RelaySays (relay_items.Event event) line
         → SaysEventAfter gateways result line }
 {
@@ -28,6 +28,7 @@ fn shared_event(event: Event) -> PairEvent
         Event::Rotate(secret) => PairEvent::Rotate(secret),
         Event::Packet { bytes } => PairEvent::Packet { bytes },
         Event::Datagram { .. } => unreachable!(),
+        Event::Limits(_) => unreachable!(),
     }
 }
 

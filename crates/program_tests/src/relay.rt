@@ -1,6 +1,6 @@
 //! The entries that a relay gives out, event by event, for whoever keeps a copy of its memberships.
 ghost use Rattle.std.specs.Prelude.{◌≤◌, IfOk, length};
-ghost use Rattle.relay_machine.specs.EventSize.{IsEvent};
+ghost use Rattle.relay_machine.specs.{EventSize.{IsEvent}, declared.settings.Settings.{Settings as SettingsValue}};
 
 use crate::memory::is_out_of_memory;
 use amt_values::{Bytes, Ip, Moment, Peer};
@@ -119,7 +119,7 @@ fn payload(rt: &impl Abort, alloc: Global, octets: &[u8]) -> Result<Bytes, Alloc
 }
 
 fn event_of(rt: &impl Abort, alloc: Global, given: Given) -> Result<Event, AllocError>
-    ensures { IfOk result IsEvent }
+    ensures { (settings : SettingsValue) → IfOk result (IsEvent settings) }
 {
     match given {
         Given::Time(ms) => Ok(Event::Moment(Moment::new(ms).expect(rt, "a moment"))),

@@ -18,7 +18,7 @@ use std::process::Abort;
 const ADDRESSES: &str = "set relay 192.0.2.1\nset query4 192.0.2.1\n";
 
 // Lines of a script, as its events are printed.
-const LINES: [&str; 7] = [
+const LINES: [&str; 8] = [
     "at 4611686018427387903\n",
     "secret 00112233445566778899aabbccddeeff00112233445566778899aabbccddeeff\n",
     "dg 198.51.100.7:5000 0100000001020304\n",
@@ -26,9 +26,11 @@ const LINES: [&str; 7] = [
     "dg [2001:db8::1:0:0:1]:65535 00\n",
     "mc 4500001c0000000004119c92c6336409ef0101010400040000080000\n",
     "mc -\n",
+    "limits 1024 64 1\n",
 ];
 
 // The first event of a relay's script of these lines, as it is printed; nothing where there is none.
+#[tactic(auto, using(amt_script::proofs::Printed::has_line))]
 fn printed_event(alloc: Global, lines: &str) -> Result<Bytes, AllocError> {
     let script = format!(in alloc; "{ADDRESSES}{lines}")?;
     if script.len() > INPUT_LIMIT {

@@ -12,10 +12,11 @@ all_more Fact [] x all one = (one, tt)
 all_more Fact (y ∷ ys) x all one = (all.0, all_more Fact ys x all.1 one)
 
 -- the items are as they may be, where those before were, and the one more is
-pub pushed_sized : (old items newer : List RelayItem) (item : RelayItem)
-    → (AllByRecursion IsItem old → AllByRecursion IsItem items) → IsItem item → newer ≡ items ++ item ∷ []
-    → AllByRecursion IsItem old → AllByRecursion IsItem newer
-pushed_sized old items newer item so_far one push start = subst (AllByRecursion IsItem) (sym push) (all_more IsItem items item (so_far start) one)
+pub pushed_sized : (settings : Settings) (old items newer : List RelayItem) (item : RelayItem)
+    → (AllByRecursion (IsItem settings) old → AllByRecursion (IsItem settings) items) → IsItem settings item → newer ≡ items ++ item ∷ []
+    → AllByRecursion (IsItem settings) old → AllByRecursion (IsItem settings) newer
+pushed_sized settings old items newer item so_far one push start =
+    subst (AllByRecursion (IsItem settings)) (sym push) (all_more (IsItem settings) items item (so_far start) one)
 
 pub packet_size : (bytes : List ℕ) (group : ℕ) → bytes ≡ packet_to group → length bytes ≤ 65535
 unfolding packet_to

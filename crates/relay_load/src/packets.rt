@@ -2,6 +2,7 @@
 
 ghost use Rattle.std.specs.{Prelude.{◌≡◌, ◌++◌, map, OnOk}, List.{AllByRecursion}};
 ghost use Rattle.amt_script.specs.{Running.{IsItem}, declared.script.RelayItem.TheVariants.{Event as EventItem}};
+ghost use Rattle.relay_machine.specs.declared.settings.Settings.{Settings as SettingsValue};
 ghost use Rattle.relay_load.specs.{Packets.{packet_to}, Script.{load_packets}};
 
 use crate::record::{GROUP_BASE, GROUPS};
@@ -36,7 +37,8 @@ fn packet_to(group: u32) -> [u8; 20]
 /// Puts all packets at the end.
 pub fn append_packets(alloc: Global, items: &mut RelayItems) -> Result<(), AllocError>
     ensures packets { OnOk result (items.new ≡ items.old ++ map EventItem load_packets) }
-    ensures sized { OnOk result (AllByRecursion IsItem items.old → AllByRecursion IsItem items.new) }
+    ensures sized { (settings : SettingsValue) → OnOk result
+        (AllByRecursion (IsItem settings) items.old → AllByRecursion (IsItem settings) items.new) }
 {
     for before in 0..PACKETS {
         let packet = packet_to(GROUP_BASE + (before + 1));

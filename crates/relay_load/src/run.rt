@@ -1,7 +1,7 @@
 //! A relay's run over a script, of which the answers are counted.
 
 ghost use Rattle.std.specs.{Prelude.{◌≡◌, ◌<◌, ◌≤◌, ◌-◌, ◌^◌, ◌+◌, [], ◌∷◌, ◌++◌, List, IfOk, OnOk}, List.{AllByRecursion}};
-ghost use Rattle.relay_machine.specs.{Answers.{After, RelayAt, outcome_of}, EventSize.{IsEvent}, declared.settings.Settings.{Settings}};
+ghost use Rattle.relay_machine.specs.{Answers.{After, RelayAt, outcome_of, settings_of}, EventSize.{IsEvent}, declared.settings.Settings.{Settings}};
 ghost use Rattle.response_mac.specs.declared.secret.Secret.{Secret};
 ghost use Rattle.amt_script.specs.{Running.{IsItem, IsRunnable}, declared.script.RelayItem.{RelayItem as ItemValue}};
 ghost use Rattle.relay_load.specs.{Counts.{summary_of}, Counting.{AreSmall, IsCounted, with_outcome}, Script.{load_script_of}, Texts.{load_text}};
@@ -42,7 +42,7 @@ fn take_event(
     counts: &mut Counts,
     event: &Event,
 ) -> Result<(), AllocError>
-    requires event { IsEvent event.now }
+    requires event { IsEvent (settings_of relay.old) event.now }
     requires room { counts.old.events < 2 ^ 64 - 1 }
     requires small { AreSmall counts.old }
 
@@ -50,6 +50,7 @@ fn take_event(
         OnOk result (RelayAt relay.new settings first (events ++ event.now ∷ []))) }
     ensures counted { After relay.old (λ settings first events. OnOk result
         (counts.new ≡ with_outcome counts.old (outcome_of settings first events event.now))) }
+    ensures settings { settings_of relay.new ≡ settings_of relay.old }
     ensures small { OnOk result (AreSmall counts.new) }
     ensures one { OnOk result (counts.new.events ≡ counts.old.events + 1) }
 {
@@ -65,13 +66,14 @@ fn take_item(
     counts: &mut Counts,
     item: &RelayItem,
 ) -> Result<(), AllocError>
-    requires item { IsItem item.now }
+    requires item { IsItem (settings_of relay.old) item.now }
     requires room { counts.old.events < 2 ^ 64 - 1 }
     requires small { AreSmall counts.old }
 
     ensures counted { (settings : Settings) (first : Secret) (before : List ItemValue)
         → IsCounted relay.old counts.old settings first before
         → OnOk result (IsCounted relay.new counts.new settings first (before ++ item.now ∷ [])) }
+    ensures settings { settings_of relay.new ≡ settings_of relay.old }
     ensures small { OnOk result (AreSmall counts.new) }
     ensures one { OnOk result (counts.new.events ≤ counts.old.events + 1) }
 {
@@ -86,7 +88,7 @@ fn count_answers(
     relay: &mut Relay,
     items: &[RelayItem],
 ) -> Result<Counts, AllocError>
-    requires { AllByRecursion IsItem items.now }
+    requires { AllByRecursion (IsItem (settings_of relay.old)) items.now }
     ensures { (settings : Settings) (first : Secret) → RelayAt relay.old settings first []
         → IfOk result (λ counts. IsCounted relay.new counts settings first items.now) }
 {

@@ -2,7 +2,7 @@
 
 ghost use Rattle.std.specs.{Prelude.{◌≡◌, ◌≤◌, ◌<◌, ◌++◌, map, IfOk, OnOk}, List.{AllByRecursion}};
 ghost use Rattle.amt_script.specs.{Running.{IsItem}, declared.script.RelayItem.TheVariants.{Event as EventItem}};
-ghost use Rattle.relay_machine.specs.EventSize.{IsEvent};
+ghost use Rattle.relay_machine.specs.{EventSize.{IsEvent}, declared.settings.Settings.{Settings as SettingsValue}};
 ghost use Rattle.relay_load.specs.{Reports.{AreReports, group_at}, Script.{load_updates}, Updates.{load_secret, record_with, update_with}};
 
 use crate::generator::Generator;
@@ -36,7 +36,7 @@ fn write_update(
     requires group { choice.now.group_index < 16 }
     ensures event { IfOk result (λ event. event ≡ update_with place choice.now.port choice.now.nonce
         (record_with choice.now.excludes (group_at choice.now.group_index))) }
-    ensures sized { IfOk result IsEvent }
+    ensures sized { (settings : SettingsValue) → IfOk result (IsEvent settings) }
 {
     let address = ENDPOINT_BASE + place;
     let endpoint = Endpoint::named(u128::from(address), choice.port);
@@ -63,7 +63,8 @@ pub fn append_updates(
 ) -> Result<(), AllocError>
     requires { count ≤ 65536 }
     ensures updates { OnOk result (items.new ≡ items.old ++ map EventItem (load_updates seed count)) }
-    ensures sized { OnOk result (AllByRecursion IsItem items.old → AllByRecursion IsItem items.new) }
+    ensures sized { (settings : SettingsValue) → OnOk result
+        (AllByRecursion (IsItem settings) items.old → AllByRecursion (IsItem settings) items.new) }
 {
     let key = MacKey::new(LOAD_SECRET);
     let reports = write_reports(alloc)?;

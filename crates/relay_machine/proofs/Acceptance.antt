@@ -3,15 +3,15 @@ use Rattle.std.{proofs.Common.{◌≡◌, ℕ, Bool, true, List, Option, Some, N
 use Rattle.amt_values.{specs.{Endpoint.{endpoint_of}, Octets.{AreOctets}, EndpointValue.{EndpointValue}, declared.{mac.Mac48.{Mac48}, peer.Peer.{Peer}}}, proofs.NetworkOrder.{AreOctets-drop}}
 use Rattle.amt_messages.{specs.{Refusal.{message_of}, declared.{message.Message.{Message, TheVariants.{Update, Teardown}}, refusal.Refused.{Refused}}}, proofs.{Spelled.{spelled_is_read}, Unrefused.{read_is_spelled}}}
 use Rattle.source_filter.specs.declared.record.Record.{Record}
-use Rattle.response_mac.specs.{ResponseMac.{is_good}, declared.{secret.Secret.{Secret}, secrets.Secrets.{Secrets}}}
-use Rattle.endpoint_membership.{specs.{Memberships.{is_live}, Table.{limit_passed, memberships_now}, declared.{change.Change.{Change, TheVariants.{Clear, Reported}}, limits.LimitFault.{LimitFault}}}, proofs.WithinLimits.{none_passed}}
-use Rattle.relay_machine.specs.declared.{event.Event.{Event, TheVariants.{Moment, Datagram, Packet, Rotate}}, outcome.{Outcome.TheVariants.{TornDown, Updated}, Unlawful.{Unlawful}}, sends.Step.{Step}}
+use Rattle.response_mac.{specs.{ResponseMac.{SecretsValue, is_good}, declared.secret.Secret.{Secret}}, proofs.Goodness.{is_good-true}}
+use Rattle.endpoint_membership.{specs.{Memberships.{is_live}, Table.{limit_passed, memberships_now}, declared.{change.Change.{Change, TheVariants.{Clear, Reported}}, limits.LimitFault.{LimitFault}}}, proofs.HoldsAfter.{none_where_it_fits}}
+use Rattle.relay_machine.specs.declared.{event.Event.{Event, TheVariants.{Moment, Datagram, Packet, Rotate, Limits}}, outcome.{Outcome.TheVariants.{TornDown, Updated}, Unlawful.{Unlawful}}, sends.Step.{Step}}
 use Rattle.relay_machine.specs.{declared.settings.Settings.{Settings}, Acceptance.{IsAcceptedTeardown, IsAcceptedUpdate, IsSomeAcceptedTeardown, IsSomeAcceptedUpdate}, Accepted.{accepted_log, change_of, handed_out}}
-use Rattle.relay_machine.specs.{Answers.{answer_of, outcome_of}, EventAnswer.{EventAnswer, datagram_answer, entered, limited_answer, teardown_answer, update_answer}, Events.{now_of, secrets_of}}
-use Rattle.relay_machine.{specs.{Settings.{table_settings_of}, Updates.{forwardable_records, report_in}}, proofs.{Goodness.{is_good-true}, Judged.{datagram-judged, packet-judged}, Lawful.{lawful-report_in, report_in-lawful}, Limits.{always_within, within-report}}}
+use Rattle.relay_machine.specs.{Answers.{answer_of, outcome_of}, EventAnswer.{EventAnswer, datagram_answer, entered, limited_answer, teardown_answer, update_answer}, Events.{now_of, secrets_of, settings_at}}
+use Rattle.relay_machine.{specs.{Settings.{table_settings_of}, Updates.{forwardable_records, report_in}}, proofs.{Judged.{datagram-judged, packet-judged}, Lawful.{lawful-report_in, report_in-lawful}}}
 
 -- the answer to an Update with a good MAC, a lawful report and within the limits
-updated_answer : (settings : Settings) (secrets : Secrets) (moment : ℕ) (log : List Change) (from : Option EndpointValue) (reading : Result Message Refused) (source : EndpointValue) (mac : Mac48) (nonce : ℕ)
+updated_answer : (settings : Settings) (secrets : SecretsValue) (moment : ℕ) (log : List Change) (from : Option EndpointValue) (reading : Result Message Refused) (source : EndpointValue) (mac : Mac48) (nonce : ℕ)
     (inner : List ℕ) (records : List Record) → from ≡ Some source → reading ≡ Ok (Update mac nonce inner) → is_good secrets source nonce mac ≡ true → report_in inner ≡ Ok records
     → limit_passed (table_settings_of settings) log source (forwardable_records records) moment ≡ None
     → datagram_answer settings secrets moment log from reading ≡ entered Updated (Reported source (forwardable_records records) moment)
@@ -24,7 +24,7 @@ updated_answer settings secrets moment log from reading source mac nonce inner r
     ∙ ap (λ (fault : Option LimitFault). limited_answer fault (Reported source (forwardable_records records) moment)) none)))
 
 -- the answer to a Teardown with a good MAC of an endpoint with some group
-torn_answer : (settings : Settings) (secrets : Secrets) (moment : ℕ) (log : List Change) (from : Option EndpointValue) (reading : Result Message Refused) (sender : EndpointValue) (mac : Mac48) (nonce : ℕ)
+torn_answer : (settings : Settings) (secrets : SecretsValue) (moment : ℕ) (log : List Change) (from : Option EndpointValue) (reading : Result Message Refused) (sender : EndpointValue) (mac : Mac48) (nonce : ℕ)
     (named : EndpointValue) → from ≡ Some sender → reading ≡ Ok (Teardown mac nonce named) → is_good secrets named nonce mac ≡ true → is_live named (memberships_now (table_settings_of settings) log) ≡ true
     → datagram_answer settings secrets moment log from reading ≡ entered TornDown (Clear named moment)
 torn_answer settings secrets moment log from reading sender mac nonce named comes_from read good live =
@@ -41,9 +41,9 @@ outcome-accepted settings first events event endpoint records update =
     let log = accepted_log settings first events in
     let whole : answer_of settings first events event ≡ entered Updated (Reported endpoint (forwardable_records records) (now_of events)) =
     ap (answer_of settings first events) update.came
-    ∙ updated_answer settings (secrets_of first events) (now_of events) log (endpoint_of update.from) (message_of update.bytes) endpoint update.mac update.nonce update.inner records update.source
-    (spelled_is_read (Update update.mac update.nonce update.inner) update.bytes update.spelled) ((is_good-true (secrets_of first events) endpoint update.nonce update.mac).1 update.good)
-    (report_in-lawful update.inner records update.lawful) (none_passed settings.limits endpoint (forwardable_records records) _ update.within) in (
+    ∙ updated_answer (settings_at settings events) (secrets_of settings first events) (now_of events) log (endpoint_of update.from) (message_of update.bytes) endpoint update.mac update.nonce update.inner records update.source
+    (spelled_is_read (Update update.mac update.nonce update.inner) update.bytes update.spelled) ((is_good-true (secrets_of settings first events) endpoint update.nonce update.mac).1 update.good)
+    (report_in-lawful update.inner records update.lawful) ((none_where_it_fits (table_settings_of (settings_at settings events)) log endpoint (forwardable_records records) (now_of events)).1 update.fits) in (
       ap (λ (answer : EventAnswer). answer.outcome) whole,
       ap (λ (answer : EventAnswer). handed_out (table_settings_of settings) log answer.entry) whole,
     )
@@ -55,8 +55,8 @@ outcome-cleared settings first events event named teardown =
     let log = accepted_log settings first events in
     let whole : answer_of settings first events event ≡ entered TornDown (Clear named (now_of events)) =
     ap (answer_of settings first events) teardown.came
-    ∙ torn_answer settings (secrets_of first events) (now_of events) log (endpoint_of teardown.from) (message_of teardown.bytes) teardown.sender teardown.mac teardown.nonce named teardown.source
-    (spelled_is_read (Teardown teardown.mac teardown.nonce named) teardown.bytes teardown.spelled) ((is_good-true (secrets_of first events) named teardown.nonce teardown.mac).1 teardown.good)
+    ∙ torn_answer (settings_at settings events) (secrets_of settings first events) (now_of events) log (endpoint_of teardown.from) (message_of teardown.bytes) teardown.sender teardown.mac teardown.nonce named teardown.source
+    (spelled_is_read (Teardown teardown.mac teardown.nonce named) teardown.bytes teardown.spelled) ((is_good-true (secrets_of settings first events) named teardown.nonce teardown.mac).1 teardown.good)
     teardown.live in (
       ap (λ (answer : EventAnswer). answer.outcome) whole,
       ap (λ (answer : EventAnswer). handed_out (table_settings_of settings) log answer.entry) whole
@@ -72,12 +72,12 @@ pub accepted-updated : (settings : Settings) (first : Secret) (events : List Eve
     → outcome_of settings first events event ≡ Updated → IsSomeAcceptedUpdate settings first events event
 accepted-updated settings first events (Moment moment) octets same = cc
 accepted-updated settings first events (Rotate secret) octets same = cc
+accepted-updated settings first events (Limits limits) octets same = cc
 accepted-updated settings first events (Packet bytes) octets same =
-    absurd ((packet-judged settings (secrets_of first events) (now_of events) (accepted_log settings first events) bytes).updated same)
+    absurd ((packet-judged (settings_at settings events) (secrets_of settings first events) (now_of events) (accepted_log settings first events) bytes).updated same)
 accepted-updated settings first events (Datagram bytes from) octets same =
-    let terms = table_settings_of settings in
     let log = accepted_log settings first events in
-    let update = (datagram-judged settings (secrets_of first events) (now_of events) log (endpoint_of from) (message_of bytes)).updated same in
+    let update = (datagram-judged (settings_at settings events) (secrets_of settings first events) (now_of events) log (endpoint_of from) (message_of bytes)).updated same in
     let spelled = read_is_spelled bytes (Update update.mac update.nonce update.inner) update.read in
     let small : AreOctets update.inner = subst AreOctets (sym spelled.inner_field) (AreOctets-drop 12 bytes (octets from bytes refl)) in (
       update.source,
@@ -91,9 +91,9 @@ accepted-updated settings first events (Datagram bytes from) octets same =
         came = refl;
         source = update.comes_from;
         spelled = spelled;
-        good = (is_good-true (secrets_of first events) update.source update.nonce update.mac).0 update.good;
+        good = (is_good-true (secrets_of settings first events) update.source update.nonce update.mac).0 update.good;
         lawful = lawful-report_in update.inner update.records small update.lawful;
-        within = within-report terms log update.source (forwardable_records update.records) (now_of events) update.none (always_within settings first events);
+        fits = (none_where_it_fits (table_settings_of (settings_at settings events)) log update.source (forwardable_records update.records) (now_of events)).0 update.none;
       },
     )
 
@@ -102,10 +102,11 @@ pub accepted-torn : (settings : Settings) (first : Secret) (events : List Event)
     → outcome_of settings first events event ≡ TornDown → IsSomeAcceptedTeardown settings first events event
 accepted-torn settings first events (Moment moment) same = cc
 accepted-torn settings first events (Rotate secret) same = cc
+accepted-torn settings first events (Limits limits) same = cc
 accepted-torn settings first events (Packet bytes) same =
-    absurd ((packet-judged settings (secrets_of first events) (now_of events) (accepted_log settings first events) bytes).torn same)
+    absurd ((packet-judged (settings_at settings events) (secrets_of settings first events) (now_of events) (accepted_log settings first events) bytes).torn same)
 accepted-torn settings first events (Datagram bytes from) same =
-    let teardown = (datagram-judged settings (secrets_of first events) (now_of events) (accepted_log settings first events) (endpoint_of from) (message_of bytes)).torn same in (
+    let teardown = (datagram-judged (settings_at settings events) (secrets_of settings first events) (now_of events) (accepted_log settings first events) (endpoint_of from) (message_of bytes)).torn same in (
       teardown.named,
       record {
         from = from;
@@ -116,7 +117,7 @@ accepted-torn settings first events (Datagram bytes from) same =
         came = refl;
         source = teardown.comes_from;
         spelled = read_is_spelled bytes (Teardown teardown.mac teardown.nonce teardown.named) teardown.read;
-        good = (is_good-true (secrets_of first events) teardown.named teardown.nonce teardown.mac).0 teardown.good;
+        good = (is_good-true (secrets_of settings first events) teardown.named teardown.nonce teardown.mac).0 teardown.good;
         live = teardown.live;
       },
     )

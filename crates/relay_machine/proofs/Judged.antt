@@ -3,12 +3,12 @@ use Rattle.std.proofs.{Common.{◌≡◌, ℕ, max, nat_lt, Bool, true, false, L
 use Rattle.std.specs.List.{fold, filter_map}
 use Rattle.amt_values.specs.{Endpoint.{endpoint_of}, EndpointValue.{EndpointValue}, Group.{is_forwardable}, declared.mac.Mac48.{Mac48}}
 use Rattle.amt_messages.specs.{Refusal.{message_of}, declared.{message.Message.{Message, TheVariants.{Teardown, Update}}, refusal.Refused.{Refused}}}
-use Rattle.response_mac.specs.{ResponseMac.{is_good}, declared.{secret.Secret.{Secret}, secrets.Secrets.{Secrets}}}
+use Rattle.response_mac.specs.{ResponseMac.{SecretsValue, is_good}, declared.secret.Secret.{Secret}}
 use Rattle.inner_datagrams.specs.{Head.{head_of}, declared.head.{Head.{Head}, HeadFault.{HeadFault}}}
 use Rattle.source_filter.specs.declared.record.Record.{Record}
 use Rattle.endpoint_membership.{specs.{Log.{brought, latest}, Memberships.{is_live}, Table.{TableSettings, limit_passed, memberships_now}, declared.{change.Change.{Change, TheVariants.{Mark, Reported}}, limits.LimitFault.{LimitFault}}}, proofs.HoldsAfter.{latest-push}}
-use Rattle.relay_machine.specs.declared.{event.Event.{Event, TheVariants.{Moment, Datagram, Packet, Rotate}}, outcome.{Outcome.{Outcome, TheVariants.{TornDown, Updated}}, Unlawful.{Unlawful}}, settings.Settings.{Settings}}
-use Rattle.relay_machine.specs.{Accepted.{accepted_back, accepted_log, entry_after, with_change}, EventAnswer.{EventAnswer, datagram_answer, event_answer, limited_answer, packet_answer, teardown_answer, update_answer}, Events.{moment_in, now_of, secrets_of}, Packets.{by_head, by_scope, targets_at}, Settings.{table_settings_of}, Updates.{forwardable_records, report_in}}
+use Rattle.relay_machine.specs.declared.{event.Event.{Event, TheVariants.{Moment, Datagram, Packet, Rotate, Limits}}, outcome.{Outcome.{Outcome, TheVariants.{TornDown, Updated}}, Unlawful.{Unlawful}}, settings.Settings.{Settings}}
+use Rattle.relay_machine.specs.{Accepted.{accepted_back, accepted_log, entry_after, with_change}, EventAnswer.{EventAnswer, datagram_answer, event_answer, limited_answer, packet_answer, teardown_answer, update_answer}, Events.{moment_in, now_of, secrets_of, settings_at}, Packets.{by_head, by_scope, targets_at}, Settings.{table_settings_of}, Updates.{forwardable_records, report_in}}
 
 -- an entry, if there is one, is made at this moment
 abbrev pub IsMadeAt : ℕ → Option Change → Type 0
@@ -31,7 +31,7 @@ pub record IsJudged (terms : TableSettings) (log : List Change) (moment : ℕ) (
   pub torn : answer.outcome ≡ TornDown → Tears
 
 -- what came where a datagram is judged to be an accepted Update
-pub record IsUpdateOf (settings : Settings) (secrets : Secrets) (moment : ℕ) (log : List Change) (from : Option EndpointValue) (reading : Result Message Refused) : Type 0 where
+pub record IsUpdateOf (settings : Settings) (secrets : SecretsValue) (moment : ℕ) (log : List Change) (from : Option EndpointValue) (reading : Result Message Refused) : Type 0 where
   pub source : EndpointValue
   pub mac : Mac48
   pub nonce : ℕ
@@ -44,7 +44,7 @@ pub record IsUpdateOf (settings : Settings) (secrets : Secrets) (moment : ℕ) (
   pub none : limit_passed (table_settings_of settings) log source (forwardable_records records) moment ≡ None
 
 -- what came where it is judged to be an accepted Teardown
-pub record IsTeardownOf (settings : Settings) (secrets : Secrets) (log : List Change) (from : Option EndpointValue) (reading : Result Message Refused) : Type 0 where
+pub record IsTeardownOf (settings : Settings) (secrets : SecretsValue) (log : List Change) (from : Option EndpointValue) (reading : Result Message Refused) : Type 0 where
   pub sender : EndpointValue
   pub mac : Mac48
   pub nonce : ℕ
@@ -72,7 +72,7 @@ module _ (terms : TableSettings) (log : List Change) (moment : ℕ) (Updates Tea
   teardown-judged true false named teardown = record { may = refl; updated = λ same. cc; torn = λ same. cc }
   teardown-judged false live named teardown = record { may = tt; updated = λ same. cc; torn = λ same. cc }
 
-module _ (settings : Settings) (secrets : Secrets) (moment : ℕ) (log : List Change) where
+module _ (settings : Settings) (secrets : SecretsValue) (moment : ℕ) (log : List Change) where
   pub datagram-judged : (from : Option EndpointValue) (reading : Result Message Refused)
       → IsJudged (table_settings_of settings) log moment (IsUpdateOf settings secrets moment log from reading) (IsTeardownOf settings secrets log from reading) (datagram_answer settings secrets moment log from reading)
   datagram-judged (Some source) (Ok (Update mac nonce inner)) =
@@ -100,6 +100,7 @@ module _ (settings : Settings) (secrets : Secrets) (moment : ℕ) (log : List Ch
   pub may-enter : (event : Event) → filter_map moment_in (event ∷ []) ≡ [] → MayEnter (table_settings_of settings) log moment (event_answer settings secrets moment log event).entry
   may-enter (Moment reported) none = cc
   may-enter (Rotate secret) none = tt
+  may-enter (Limits limits) none = tt
   may-enter (Packet bytes) none = (packet-judged bytes).may
   may-enter (Datagram bytes from) none = (datagram-judged (endpoint_of from) (message_of bytes)).may
 
@@ -135,7 +136,7 @@ latest_back settings first (Moment moment ∷ earlier) =
 latest_back settings first (event ∷ earlier) =
     let log = accepted_back settings first earlier in
     let now = now_of (reverse earlier) in
-    latest-with log (entry_after settings first (reverse earlier) log event) now (latest_back settings first earlier) (unmoved-made settings (secrets_of first (reverse earlier)) now log event refl)
+    latest-with log (entry_after settings first (reverse earlier) log event) now (latest_back settings first earlier) (unmoved-made (settings_at settings (reverse earlier)) (secrets_of settings first (reverse earlier)) now log event refl)
     ∙ sym (ap now_of (reverse-append (event ∷ []) earlier) ∙ now_of-other (reverse earlier) event refl)
 
 -- the newest entry is of the moment of the events

@@ -2,7 +2,7 @@ pub mod Acceptance
 pub mod Answering
 pub mod Copies
 pub mod Courses
-pub mod Goodness
+pub mod InForce
 pub mod Judged
 pub mod Lawful
 pub mod Limits

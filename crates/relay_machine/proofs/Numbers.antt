@@ -4,16 +4,17 @@ use Rattle.std.proofs.Common.{◌≤◌, ◌<◌, ◌+◌, ◌*◌, ℕ, List, [
 use Rattle.std.{proofs.lemmas.{List.{take_more, Elements.{All-append, All-cons, All-from_recursion, All-nil}}, Nat.{mul-le}}, specs.List.{All, AllByRecursion}}
 use Rattle.amt_values.specs.declared.address.Ip.{Ip}
 use Rattle.endpoint_membership.specs.Table.{AreLawful}
-use Rattle.relay_machine.specs.{declared.{settings.Settings.{Settings}, number_key.{NumberKey.{NumberKey, TheVariants.{Robustness, QuerySeconds, ResponseTenths, Endpoints, Groups, Sources, PacketLimit}}, TheConstants.{NUMBER_KEYS}}}, Settings.{AreLawfulSettings, IsInKeyRange, default_settings, membership_interval_ms, number_row}}
+use Rattle.relay_machine.specs.{declared.{settings.Settings.{Settings}, number_key.{NumberKey.{NumberKey, TheVariants.{Robustness, QuerySeconds, ResponseTenths, Secrets, Endpoints, Groups, Sources, PacketLimit}}, TheConstants.{NUMBER_KEYS}}}, Settings.{AreLawfulSettings, IsInKeyRange, default_settings, membership_interval_ms, number_row}}
 
 pub All-keys : (P : NumberKey → Type 0) → All P NUMBER_KEYS → (key : NumberKey) → P key
 All-keys P all Robustness = all 0 Robustness (omega arith)
 All-keys P all QuerySeconds = all 1 Robustness (omega arith)
 All-keys P all ResponseTenths = all 2 Robustness (omega arith)
-All-keys P all Endpoints = all 3 Robustness (omega arith)
-All-keys P all Groups = all 4 Robustness (omega arith)
-All-keys P all Sources = all 5 Robustness (omega arith)
-All-keys P all PacketLimit = all 6 Robustness (omega arith)
+All-keys P all Secrets = all 3 Robustness (omega arith)
+All-keys P all Endpoints = all 4 Robustness (omega arith)
+All-keys P all Groups = all 5 Robustness (omega arith)
+All-keys P all Sources = all 6 Robustness (omega arith)
+All-keys P all PacketLimit = all 7 Robustness (omega arith)
 
 -- what holds of the keys before one, and of that one, holds of one key more
 pub All-more : (P : NumberKey → Type 0) (keys : List NumberKey) (i : ℕ) (d : NumberKey) → All P (take i keys) → i < length keys → P (get_or keys i d) → All P (take (i + 1) keys)

@@ -1,23 +1,23 @@
 -- Where one more event leaves a relay.
 use Rattle.std.{proofs.{Common.{◌≡◌, ◌≤◌, ℕ, max, List, [], ◌∷◌, ◌++◌, Result, Ok, Err, refl, sym, ap, subst, ◌∙◌}, Math.Logic.{∥∥₁_elim, ∥∥₁_map, ∥∥₁_prop}, Props.{props}, lemmas.List.{append-nil, reverse-append, reverse-reverse, Elements.{filter_map-append}}}, specs.{Coded.{le_prop}, List.{filter_map}, Result.{IfOk, OnErr}}}
 use mathlib.Core.HLevel.{is_prop→PathP}
-use Rattle.response_mac.specs.{declared.{secret.Secret.{Secret}, secrets.Secrets.{Secrets}}, ResponseMac.{secrets_after}}
-use Rattle.endpoint_membership.specs.{Limits.{AreFew, IsWithin}, Log.{latest}, Table.{Holds, IsWithinLimits, TableValue, TableSettings, memberships_now}, Targets.{TargetsValue}}
+use Rattle.response_mac.specs.{declared.secret.Secret.{Secret}, ResponseMac.{SecretsValue, secrets_after}}
+use Rattle.endpoint_membership.specs.{Limits.{AreFew, AreWithin, IsWithin}, Log.{latest}, Table.{Holds, IsWithinLimits, TableValue, TableSettings, memberships_now}, Targets.{TargetsValue}}
 use Rattle.endpoint_membership.{specs.declared.{change.Change.{Change, TheVariants.{Mark}}, limits.Limits.{Limits}, row.Row.{Row}}, proofs.HoldsAfter.{IsWithin-log}}
-use Rattle.relay_machine.specs.{declared.{event.Event.{Event, TheVariants.{Moment, Rotate}}, relay.Relay.{Relay}, sends.Step.{Step}, settings.Settings.{Settings}}, Accepted.{accepted_back, accepted_log, entry_after, entry_of, with_change}, Answers.{RelayAt, StandsFor, answer_of, moment_of, settings_of}, EventSize.{IsPayload}}
-use Rattle.relay_machine.{specs.{EventAnswer.{EventAnswer, event_answer}, Events.{now_of, secret_in, secrets_of}, Logs.{AnswersByLog, IsAnswered}, Settings.{table_settings_of}, State.{HasLog}}, proofs.Judged.{latest-accepted_log}}
+use Rattle.relay_machine.specs.{declared.{event.Event.{Event, TheVariants.{Moment, Rotate, Limits as Lowered}}, relay.Relay.{Relay}, sends.Step.{Step}, settings.Settings.{Settings}}, Accepted.{accepted_back, accepted_log, entry_after, entry_of, with_change}, Answers.{RelayAt, StandsFor, answer_of, moment_of, settings_of}, EventSize.{IsPayload}}
+use Rattle.relay_machine.{specs.{EventAnswer.{EventAnswer, event_answer}, Events.{limits_at, now_of, secret_in, secrets_of}, Logs.{AnswersByLog, IsAnswered, settings_in_force}, Settings.{table_settings_of}, State.{HasLog}}, proofs.{InForce.{limits_at-limits, limits_at-moment, limits_at-payload, limits_at-rotate}, Judged.{latest-accepted_log}}}
 
-secrets_of-rotate : (first : Secret) (events : List Event) (secret : Secret)
-    → secrets_of first (events ++ Rotate secret ∷ []) ≡ secrets_after first (filter_map secret_in events ++ secret ∷ [])
+secrets_of-rotate : (settings : Settings) (first : Secret) (events : List Event) (secret : Secret)
+    → secrets_of settings first (events ++ Rotate secret ∷ []) ≡ secrets_after settings.secrets first (filter_map secret_in events ++ secret ∷ [])
 unfolding secrets_of
-secrets_of-rotate first events secret = ap (secrets_after first) (filter_map-append secret_in events (Rotate secret ∷ []))
+secrets_of-rotate settings first events secret = ap (secrets_after settings.secrets first) (filter_map-append secret_in events (Rotate secret ∷ []))
 
 -- an event that brings no secret leaves the secrets
-secrets_of-other : (first : Secret) (events : List Event) (event : Event) → filter_map secret_in (event ∷ []) ≡ []
-    → secrets_of first (events ++ event ∷ []) ≡ secrets_of first events
+secrets_of-other : (settings : Settings) (first : Secret) (events : List Event) (event : Event) → filter_map secret_in (event ∷ []) ≡ []
+    → secrets_of settings first (events ++ event ∷ []) ≡ secrets_of settings first events
 unfolding secrets_of
-secrets_of-other first events event none =
-    ap (secrets_after first)
+secrets_of-other settings first events event none =
+    ap (secrets_after settings.secrets first)
     (filter_map-append secret_in events (event ∷ []) ∙ (ap (λ (brought : List Secret). filter_map secret_in events ++ brought) none ∙ append-nil _))
 
 -- one event more adds its entry, or none, to the log
@@ -60,11 +60,11 @@ same_relay relay table targets within has_log has_room no_targets same same_targ
 }
 
 -- a new relay
-pub RelayAt-new : (relay : Relay) (settings : Settings) (first : Secret) → settings_of relay ≡ settings → relay.secrets ≡ secrets_after first []
-    → Holds (table_settings_of settings) relay.table [] → RelayAt relay settings first []
-unfolding now_of secrets_of accepted_back
-RelayAt-new relay settings first same_settings same_secrets holds =
-    record { settings_kept = same_settings; secrets = same_secrets; table = holds; moment = holds.moment }
+pub RelayAt-new : (relay : Relay) (settings : Settings) (first : Secret) → settings_of relay ≡ settings → relay.secrets ≡ secrets_after settings.secrets first []
+    → Holds (table_settings_of settings) relay.table [] → relay.table.in_force ≡ settings.limits → RelayAt relay settings first []
+unfolding now_of secrets_of limits_at accepted_back
+RelayAt-new relay settings first same_settings same_secrets holds force =
+    record { settings_kept = same_settings; secrets = same_secrets; table = holds; moment = holds.moment; force = force }
 
 -- the table after an event, with the entry that the event adds
 Holds-push : (settings : Settings) (first : Secret) (events : List Event) (event : Event) (table : TableValue)
@@ -73,57 +73,83 @@ Holds-push : (settings : Settings) (first : Secret) (events : List Event) (event
 Holds-push settings first events event table holds = subst (Holds (table_settings_of settings) table) (sym (accepted-push settings first events event)) holds
 
 -- the relay is where the events leave it, since the log is of their moment
-RelayAt-push : (after : Relay) (settings : Settings) (first : Secret) (events : List Event) (event : Event) → settings_of after ≡ settings → after.secrets ≡ secrets_of first (events ++ event ∷ [])
+RelayAt-push : (after : Relay) (settings : Settings) (first : Secret) (events : List Event) (event : Event) → settings_of after ≡ settings → after.secrets ≡ secrets_of settings first (events ++ event ∷ [])
+    → after.table.in_force ≡ limits_at settings (events ++ event ∷ [])
     → Holds (table_settings_of settings) after.table (with_change (accepted_log settings first events) (entry_of settings first events event))
     → RelayAt after settings first (events ++ event ∷ [])
-RelayAt-push after settings first events event same_settings same_secrets holds =
+RelayAt-push after settings first events event same_settings same_secrets force holds =
     let table = Holds-push settings first events event after.table holds in
-    record { settings_kept = same_settings; secrets = same_secrets; table = table; moment = table.moment ∙ latest-accepted_log settings first (events ++ event ∷ []) }
+    record { settings_kept = same_settings; secrets = same_secrets; table = table; moment = table.moment ∙ latest-accepted_log settings first (events ++ event ∷ []); force = force }
 
 -- a moment moves the table on, and changes nothing else
 pub RelayAt-moment : (relay after : Relay) (settings : Settings) (first : Secret) (events : List Event) (moment later : ℕ) → RelayAt relay settings first events
     → settings_of after ≡ settings_of relay → after.secrets ≡ relay.secrets → later ≡ max (moment_of relay) moment
+    → after.table.in_force ≡ relay.table.in_force
     → ((terms : TableSettings) (log : List Change) → Holds terms relay.table log → Holds terms after.table (log ++ Mark later ∷ []))
     → RelayAt after settings first (events ++ Moment moment ∷ [])
-RelayAt-moment relay after settings first events moment later at same_settings same_secrets later_is marked =
+RelayAt-moment relay after settings first events moment later at same_settings same_secrets later_is same_force marked =
     let log = accepted_log settings first events in
-    RelayAt-push after settings first events (Moment moment) (same_settings ∙ at.settings_kept) (same_secrets ∙ (at.secrets ∙ sym (secrets_of-other first events (Moment moment) refl)))
+    RelayAt-push after settings first events (Moment moment) (same_settings ∙ at.settings_kept) (same_secrets ∙ (at.secrets ∙ sym (secrets_of-other settings first events (Moment moment) refl)))
+    (same_force ∙ (at.force ∙ sym (limits_at-moment settings events moment)))
     (subst (λ (m : ℕ). Holds (table_settings_of settings) after.table (log ++ Mark m ∷ [])) (later_is ∙ ap (λ (m : ℕ). max m moment) at.moment) (marked (table_settings_of settings) log at.table))
 
 payload_secret : (event : Event) → IsPayload event → filter_map secret_in (event ∷ []) ≡ []
 payload_secret (Moment moment) payload = absurd payload
 payload_secret (Rotate secret) payload = absurd payload
+payload_secret (Lowered limits) payload = absurd payload
 payload_secret event payload = refl
 
 -- what is answered by the table's own log is what is answered by the events
 pub answered-after : {E : Type 0} (relay : Relay) (after : TableValue) (settings : Settings) (first : Secret) (events : List Event) (event : Event) (result : Result Step E)
     → RelayAt relay settings first events
-    → AnswersByLog (table_settings_of (settings_of relay)) relay.table after result (λ log. event_answer (settings_of relay) relay.secrets (latest log) log event)
+    → AnswersByLog (table_settings_of (settings_of relay)) relay.table after result (λ log. event_answer (settings_in_force (settings_of relay) relay.table) relay.secrets (latest log) log event)
     → IfOk result (IsAnswered (table_settings_of settings) relay.table after (accepted_log settings first events) (answer_of settings first events event))
 answered-after relay after settings first events event result at answers =
     let log = accepted_log settings first events in
-    let by : Settings → Secrets → ℕ → Type 0 = λ known secrets moment. IfOk result (IsAnswered (table_settings_of known) relay.table after log (event_answer known secrets moment log event)) in
-    subst (by settings (secrets_of first events)) (latest-accepted_log settings first events)
-    (subst (λ (secrets : Secrets). by settings secrets (latest log)) at.secrets
-    (subst (λ (known : Settings). by known relay.secrets (latest log)) at.settings_kept (answers log (StandsFor-accepted relay settings first events at))))
+    let by : Settings → Limits → SecretsValue → ℕ → Type 0 =
+    λ known limits secrets moment. IfOk result (IsAnswered (table_settings_of known) relay.table after log (event_answer (record known { limits = limits }) secrets moment log event)) in
+    subst (by settings (limits_at settings events) (secrets_of settings first events)) (latest-accepted_log settings first events)
+    (subst (λ (secrets : SecretsValue). by settings (limits_at settings events) secrets (latest log)) at.secrets
+    (subst (λ (limits : Limits). by settings limits relay.secrets (latest log)) at.force
+    (subst (λ (known : Settings). by known relay.table.in_force relay.secrets (latest log)) at.settings_kept (answers log (StandsFor-accepted relay settings first events at)))))
 
 -- a datagram or a packet changes the table by the entry that it adds, and nothing else
 pub RelayAt-payload : (relay after : Relay) (settings : Settings) (first : Secret) (events : List Event) (event : Event) → RelayAt relay settings first events → IsPayload event
-    → settings_of after ≡ settings_of relay → after.secrets ≡ relay.secrets
+    → settings_of after ≡ settings_of relay → after.secrets ≡ relay.secrets → after.table.in_force ≡ relay.table.in_force
     → Holds (table_settings_of settings) after.table (with_change (accepted_log settings first events) (entry_of settings first events event))
     → RelayAt after settings first (events ++ event ∷ [])
-RelayAt-payload relay after settings first events event at payload same_settings same_secrets holds =
-    RelayAt-push after settings first events event (same_settings ∙ at.settings_kept) (same_secrets ∙ (at.secrets ∙ sym (secrets_of-other first events event (payload_secret event payload)))) holds
+RelayAt-payload relay after settings first events event at payload same_settings same_secrets same_force holds =
+    RelayAt-push after settings first events event (same_settings ∙ at.settings_kept) (same_secrets ∙ (at.secrets ∙ sym (secrets_of-other settings first events event (payload_secret event payload))))
+    (same_force ∙ (at.force ∙ sym (limits_at-payload settings events event payload))) holds
 
 -- a secret is the last of the secrets, and nothing else changes
 pub RelayAt-rotate : (relay after : Relay) (settings : Settings) (first : Secret) (events : List Event) (secret : Secret) → RelayAt relay settings first events
     → settings_of after ≡ settings_of relay → after.table ≡ relay.table
-    → ((f : Secret) (changes : List Secret) → relay.secrets ≡ secrets_after f changes → after.secrets ≡ secrets_after f (changes ++ secret ∷ []))
+    → ((keep : ℕ) (f : Secret) (changes : List Secret) → relay.secrets ≡ secrets_after keep f changes → after.secrets ≡ secrets_after keep f (changes ++ secret ∷ []))
     → RelayAt after settings first (events ++ Rotate secret ∷ [])
 unfolding secrets_of
 RelayAt-rotate relay after settings first events secret at same_settings same_table appended =
-    RelayAt-push after settings first events (Rotate secret) (same_settings ∙ at.settings_kept) (appended first (filter_map secret_in events) at.secrets ∙ sym (secrets_of-rotate first events secret))
+    RelayAt-push after settings first events (Rotate secret) (same_settings ∙ at.settings_kept) (appended settings.secrets first (filter_map secret_in events) at.secrets ∙ sym (secrets_of-rotate settings first events secret))
+    (ap (λ (table : TableValue). table.in_force) same_table ∙ (at.force ∙ sym (limits_at-rotate settings events secret)))
     (subst (λ (table : TableValue). Holds (table_settings_of settings) table (accepted_log settings first events)) (sym same_table) at.table)
+
+-- other limits in force leave what the table represents
+pub Holds-in_force : (terms : TableSettings) (table after : TableValue) (limits : Limits) (log : List Change) → after ≡ record table { in_force = limits } → Holds terms table log → Holds terms after log
+Holds-in_force terms table after limits log same holds =
+    subst (λ (one : TableValue). Holds terms one log) (sym same) (record { limits = holds.limits; lifetime = holds.lifetime; moment = holds.moment; rows = holds.rows })
+
+-- limits that a relay takes are in force then, and nothing else changes
+pub RelayAt-limits : (relay after : Relay) (settings : Settings) (first : Secret) (events : List Event) (limits : Limits) → RelayAt relay settings first events → AreWithin (settings_of relay).limits limits
+    → settings_of after ≡ settings_of relay → after.secrets ≡ relay.secrets → after.table ≡ record relay.table { in_force = limits } → RelayAt after settings first (events ++ Lowered limits ∷ [])
+RelayAt-limits relay after settings first events limits at within same_settings same_secrets same_table =
+    RelayAt-push after settings first events (Lowered limits) (same_settings ∙ at.settings_kept) (same_secrets ∙ (at.secrets ∙ sym (secrets_of-other settings first events (Lowered limits) refl)))
+    (ap (λ (table : TableValue). table.in_force) same_table ∙ sym (limits_at-limits settings events limits (subst (λ (known : Settings). AreWithin known.limits limits) at.settings_kept within)))
+    (Holds-in_force (table_settings_of settings) relay.table after.table limits (accepted_log settings first events) same_table at.table)
+
+-- what a relay's settings allow, its table allows
+pub AreWithin-table : (relay : Relay) (limits : Limits) → AreWithin (settings_of relay).limits limits → AreWithin relay.table.limits limits
+AreWithin-table relay limits within =
+    ∥∥₁_elim relay.has_log (hlevel props) (λ found. subst (λ (given : Limits). AreWithin given limits) (sym found.1.limits) within)
 
 -- the memberships by the log are within the limits, as each relay's table is
 pub IsWithin-events : (relay : Relay) (settings : Settings) (first : Secret) (events : List Event) → RelayAt relay settings first events

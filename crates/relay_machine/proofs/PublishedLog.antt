@@ -1,11 +1,11 @@
 -- What steps hand out is the published log.
 use Rattle.std.proofs.Common.{◌≡◌, ◌<◌, ◌⊎◌, ℕ, max, not, Bool, true, false, List, [], ◌∷◌, ◌++◌, reverse, take, drop, Option, Some, None, refl, sym, ap, subst, ◌∙◌, arith, inl, inr, le_refl, ⊎_elim, if◌then◌else◌}
 use Rattle.amt_values.specs.EndpointValue.{EndpointValue}
-use Rattle.response_mac.specs.declared.{secret.Secret.{Secret}, secrets.Secrets.{Secrets}}
+use Rattle.response_mac.specs.{declared.secret.Secret.{Secret}, ResponseMac.{SecretsValue}}
 use Rattle.endpoint_membership.specs.{Limits.{IsWithin}, Log.{brought, latest}, Memberships.{is_live, memberships_at}, Published.{AnswerAlike, ClearingsLetNoTimePass, IsPublishedPart, published_of, with_published}}
 use Rattle.endpoint_membership.{specs.{Table.{TableSettings, memberships_now}, declared.change.Change.{Change, TheVariants.{Mark, Clear, Reported}}}, proofs.PublishedLog.{AnswerAlike-published, IsPublishedPart-prefix, published-next, published-none}}
 use Rattle.relay_machine.specs.{declared.{event.Event.{Event, TheVariants.{Moment}}, settings.Settings.{Settings}}, Accepted.{accepted_back, accepted_log, change_of, entry_after, entry_of, handed_out, with_change}, EventAnswer.{event_answer}}
-use Rattle.relay_machine.{specs.{Events.{now_of, secrets_of}, Published.{published_log}, Settings.{AreLawfulSettings, membership_interval_ms, table_settings_of}}, proofs.{Judged.{IsMadeAt, latest_back, unmoved-made}, Limits.{always_within}, Numbers.{AreLawful-settings}, Onward.{accepted-push}}}
+use Rattle.relay_machine.{specs.{Events.{now_of, secrets_of, settings_at}, Published.{published_log}, Settings.{AreLawfulSettings, membership_interval_ms, table_settings_of}}, proofs.{Judged.{IsMadeAt, latest_back, unmoved-made}, Limits.{always_within}, Numbers.{AreLawful-settings}, Onward.{accepted-push}}}
 pub use Rattle.relay_machine.proofs.Judged.{latest-accepted_log}
 
 -- a clearing is made at the moment of the events before it
@@ -23,7 +23,7 @@ made-clears : (moment : ℕ) (entry : Option Change) → IsMadeAt moment entry �
 made-clears moment None made endpoint at is = cc
 made-clears moment (Some change) made endpoint at is = sym (brought_at change endpoint at is) ∙ made
 
-event-clears : (settings : Settings) (secrets : Secrets) (moment : ℕ) (log : List Change) (event : Event) → ClearsAt moment (event_answer settings secrets moment log event).entry
+event-clears : (settings : Settings) (secrets : SecretsValue) (moment : ℕ) (log : List Change) (event : Event) → ClearsAt moment (event_answer settings secrets moment log event).entry
 event-clears settings secrets moment log (Moment reported) = λ endpoint at is. absurd (no_clearing is)
   where
     no_clearing : {endpoint : EndpointValue} {at : ℕ} → Some (Mark (max moment reported)) ≡ Some (Clear endpoint at) → ⊥
@@ -73,7 +73,7 @@ timely_back settings first (event ∷ earlier) =
     let log = accepted_back settings first earlier in
     let now = now_of (reverse earlier) in
     timely-with log (entry_after settings first (reverse earlier) log event) now (latest_back settings first earlier)
-    (event-clears settings (secrets_of first (reverse earlier)) now log event) (timely_back settings first earlier)
+    (event-clears (settings_at settings (reverse earlier)) (secrets_of settings first (reverse earlier)) now log event) (timely_back settings first earlier)
 
 timely : (settings : Settings) (first : Secret) (events : List Event) → ClearingsLetNoTimePass (accepted_log settings first events)
 timely settings first events = timely_back settings first (reverse events)
@@ -108,7 +108,7 @@ published_log-next settings first events event =
     let log = accepted_log settings first events in
     let entry = entry_of settings first events event in
     ap (published_of (membership_interval_ms settings)) (accepted-push settings first events event)
-    ∙ handed (table_settings_of settings) log entry (subst (λ (moment : ℕ). ClearsAt moment entry) (sym (latest-accepted_log settings first events)) (event-clears settings (secrets_of first events) (now_of events) log event))
+    ∙ handed (table_settings_of settings) log entry (subst (λ (moment : ℕ). ClearsAt moment entry) (sym (latest-accepted_log settings first events)) (event-clears (settings_at settings events) (secrets_of settings first events) (now_of events) log event))
 
 pub published_log-none : (settings : Settings) (first : Secret) → published_log settings first [] ≡ []
 unfolding accepted_back

@@ -1,10 +1,11 @@
--- How long the datagrams of General Queries are.
+-- The datagrams of General Queries: how long they are, and that no limit is in them.
 use Rattle.std.proofs.Common.{◌≡◌, ℕ, ◌+◌, ◌≤◌, Bool, true, false, List, [], length, Some, if◌then◌else◌, refl, arith}
 use Rattle.amt_messages.specs.StatedLength.{inner_length_of}
 use Rattle.group_records.{specs.{declared.family.Family.TheVariants.{V4}, Query.{written_query}}, proofs.WrittenQuery.{length-written_query}}
 use Rattle.igmp_records.specs.Query.{written_query4}
 use Rattle.source_filter.specs.declared.query.QueryFields.{QueryFields}
 use Rattle.inner_datagrams.specs.Written.{written_inner4, written_inner6}
+use Rattle.endpoint_membership.specs.declared.limits.Limits.{Limits}
 use Rattle.relay_machine.specs.{declared.settings.Settings.{Settings}, Queries.{general_query}}
 
 pub length-written_query4 : (fields : QueryFields) → length (written_query4 fields) ≡ 12
@@ -30,3 +31,9 @@ query_may_carry inner settings false trailing few same =
 query_may_carry inner settings true trailing few same =
     let size = length-general_query settings true in
     rw same (rw size (inner_length_of-general_query settings true), rw size (omega arith))
+
+-- other limits give the same General Query
+pub general_query-limits : (settings : Settings) (limits : Limits) (v6 : Bool) → general_query settings v6 ≡ general_query (record settings { limits = limits }) v6
+unfolding general_query
+general_query-limits settings limits false = refl
+general_query-limits settings limits true = refl

@@ -1,15 +1,15 @@
 -- Which Updates and Teardowns change the memberships at a relay (RFC 7450, section 5.3.3).
-use Rattle.std.specs.Prelude.{◌≡◌, ℕ, true, List, [], ◌∷◌, ◌++◌, Some}
+use Rattle.std.specs.Prelude.{◌≡◌, ℕ, true, List, Some}
 use Rattle.amt_values.specs.{Endpoint.{endpoint_of}, EndpointValue.{EndpointValue}, declared.{mac.Mac48.{Mac48}, peer.Peer.{Peer}}}
 use Rattle.amt_messages.specs.{Layout.{Spells}, declared.message.Message.TheVariants.{Teardown, Update}}
 use Rattle.response_mac.specs.{ResponseMac.{IsGood}, declared.secret.Secret.{Secret}}
 use Rattle.source_filter.specs.declared.record.Record.{Record}
-use Rattle.endpoint_membership.specs.{Limits.{IsWithin}, Memberships.{is_live}, Table.{memberships_now}, declared.change.Change.TheVariants.{Reported}}
-use Rattle.relay_machine.specs.{declared.{event.Event.{Event, TheVariants.{Datagram}}, settings.Settings.{Settings}}, Accepted.{accepted_log}, Events.{now_of, secrets_of}, Lawful.{IsLawful}, Settings.{table_settings_of}, Updates.{forwardable_records}}
+use Rattle.endpoint_membership.specs.{Memberships.{is_live}, Table.{ReportFits, memberships_now}}
+use Rattle.relay_machine.specs.{declared.{event.Event.{Event, TheVariants.{Datagram}}, settings.Settings.{Settings}}, Accepted.{accepted_log}, Events.{now_of, secrets_of, settings_at}, Lawful.{IsLawful}, Settings.{table_settings_of}, Updates.{forwardable_records}}
 
 -- the event is an Update of the endpoint: its response MAC is good after these events, it carries a
--- lawful report of these records, and with those of them on groups that are forwarded the
--- memberships are within the limits
+-- lawful report of these records, and those of them on groups that are forwarded fit the limits in
+-- force: they leave no more than these, or no more than there is without them
 pub record IsAcceptedUpdate (settings : Settings) (first : Secret) (events : List Event) (event : Event) (endpoint : EndpointValue) (records : List Record) : Type 0 where
   pub from : Peer
   pub bytes : List ℕ
@@ -19,10 +19,9 @@ pub record IsAcceptedUpdate (settings : Settings) (first : Secret) (events : Lis
   pub came : event ≡ Datagram bytes from
   pub source : endpoint_of from ≡ Some endpoint
   pub spelled : Spells (Update mac nonce inner) bytes
-  pub good : IsGood (secrets_of first events) endpoint nonce mac
+  pub good : IsGood (secrets_of settings first events) endpoint nonce mac
   pub lawful : IsLawful inner records
-  pub within : IsWithin settings.limits
-      (memberships_now (table_settings_of settings) (accepted_log settings first events ++ Reported endpoint (forwardable_records records) (now_of events) ∷ []))
+  pub fits : ReportFits (table_settings_of (settings_at settings events)) (accepted_log settings first events) endpoint (forwardable_records records) (now_of events)
 
 -- the event is such an Update, of some endpoint and records
 abbrev pub IsSomeAcceptedUpdate : Settings → Secret → List Event → Event → Type 0
@@ -41,7 +40,7 @@ pub record IsAcceptedTeardown (settings : Settings) (first : Secret) (events : L
   pub came : event ≡ Datagram bytes from
   pub source : endpoint_of from ≡ Some sender
   pub spelled : Spells (Teardown mac nonce named) bytes
-  pub good : IsGood (secrets_of first events) named nonce mac
+  pub good : IsGood (secrets_of settings first events) named nonce mac
   pub live : is_live named (memberships_now (table_settings_of settings) (accepted_log settings first events)) ≡ true
 
 -- the event is such a Teardown, of some endpoint

@@ -3,7 +3,7 @@
 use Rattle.std.specs.Prelude.{List, [], ◌∷◌, ◌++◌, reverse, Option, Some, None, if◌then◌else◌}
 use Rattle.response_mac.specs.declared.secret.Secret.{Secret}
 use Rattle.endpoint_membership.specs.{Memberships.{is_live}, Table.{TableSettings, memberships_now}, declared.change.Change.{Change, TheVariants.{Reported, Clear, Mark}}}
-use Rattle.relay_machine.specs.{declared.{event.Event.{Event}, settings.Settings.{Settings}}, EventAnswer.{event_answer}, Events.{now_of, secrets_of}, Settings.{table_settings_of}}
+use Rattle.relay_machine.specs.{declared.{event.Event.{Event}, settings.Settings.{Settings}}, EventAnswer.{event_answer}, Events.{now_of, secrets_of, settings_at}, Settings.{table_settings_of}}
 
 -- the log with one more entry, or with none
 abbrev pub with_change : List Change → Option Change → List Change
@@ -12,7 +12,8 @@ with_change log (Some change) = log ++ change ∷ []
 
 -- the entry that an event makes after these events and the log that they left
 abbrev pub entry_after : Settings → Secret → List Event → List Change → Event → Option Change
-entry_after settings first events log event = (event_answer settings (secrets_of first events) (now_of events) log event).entry
+entry_after settings first events log event =
+    (event_answer (settings_at settings events) (secrets_of settings first events) (now_of events) log event).entry
 
 -- the log of events, of which the newest comes first
 unfoldable pub accepted_back : Settings → Secret → List Event → List Change

@@ -4,13 +4,13 @@ use Rattle.amt_values.specs.EndpointValue.{EndpointValue}
 use Rattle.inner_datagrams.specs.declared.head.Head.{Head}
 use Rattle.response_mac.specs.declared.secret.Secret.{Secret}
 use Rattle.endpoint_membership.specs.{Admission.{is_admitted}, Memberships.{rows_of}, Table.{Holds}, declared.{change.Change.{Change}, row.Row.{Row}}}
-use Rattle.relay_machine.specs.{declared.{event.Event.{Event}, outcome.Outcome.{Outcome}, relay.Relay.{Relay}, sends.OneSend.{OneSend}, settings.Settings.{Settings}}, Accepted.{accepted_log}, EventAnswer.{EventAnswer, event_answer}, Events.{now_of, secrets_of}, Settings.{membership_interval_ms, table_settings_of}}
+use Rattle.relay_machine.specs.{declared.{event.Event.{Event}, outcome.Outcome.{Outcome}, relay.Relay.{Relay}, sends.OneSend.{OneSend}, settings.Settings.{Settings}}, Accepted.{accepted_log}, EventAnswer.{EventAnswer, event_answer}, Events.{limits_at, now_of, secrets_of, settings_at}, Settings.{membership_interval_ms, table_settings_of}}
 
 -- what an event comes to, what is sent and what is entered after these events: a Query has its MAC
--- under the secret that is current then
+-- under the secret that is current then, and a report is judged by the limits in force
 abbrev pub answer_of : Settings → Secret → List Event → Event → EventAnswer
 answer_of settings first events event =
-    event_answer settings (secrets_of first events) (now_of events) (accepted_log settings first events) event
+    event_answer (settings_at settings events) (secrets_of settings first events) (now_of events) (accepted_log settings first events) event
 
 -- what an event comes to after these events
 abbrev pub outcome_of : Settings → Secret → List Event → Event → Outcome
@@ -33,12 +33,13 @@ abbrev pub StandsFor : Relay → List Change → Type 0
 StandsFor relay log = Holds (table_settings_of (settings_of relay)) relay.table log
 
 -- the relay is where these events leave one of these settings that began with this secret: its
--- table represents their accepted log
+-- table represents their accepted log, and has the limits in force that they left
 pub record RelayAt (relay : Relay) (settings : Settings) (first : Secret) (events : List Event) : Type 0 where
   pub settings_kept : settings_of relay ≡ settings
-  pub secrets : relay.secrets ≡ secrets_of first events
+  pub secrets : relay.secrets ≡ secrets_of settings first events
   pub table : Holds (table_settings_of settings) relay.table (accepted_log settings first events)
   pub moment : moment_of relay ≡ now_of events
+  pub force : relay.table.in_force ≡ limits_at settings events
 
 -- a fact of settings, first secret and events holds of all those after which the relay may be
 abbrev pub After : Relay → (Settings → Secret → List Event → Type 0) → Type 0

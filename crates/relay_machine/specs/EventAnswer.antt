@@ -6,10 +6,10 @@ use Rattle.amt_values.specs.{Endpoint.{endpoint_of}, EndpointValue.{EndpointValu
 use Rattle.amt_messages.specs.{declared.{message.Message.{Message, TheVariants.{Discovery, Advertisement, Request, Query, Update, Multicast, Teardown}}, refusal.Refused.{Refused}}, Layout.{spelling_of}, Refusal.{message_of}}
 use Rattle.inner_datagrams.specs.declared.head.Head.{Head}
 use Rattle.source_filter.specs.declared.record.Record.{Record}
-use Rattle.response_mac.specs.{declared.secrets.Secrets.{Secrets}, ResponseMac.{is_good}}
+use Rattle.response_mac.specs.ResponseMac.{SecretsValue, is_good}
 use Rattle.endpoint_membership.specs.{Limits.{live_count}, Memberships.{is_live}, Table.{TableSettings, limit_passed, memberships_now}, declared.{change.Change.{Change, TheVariants.{Clear, Mark, Reported}}, limits.LimitFault.{LimitFault}}}
-use Rattle.relay_machine.specs.declared.{event.Event.{Event, TheVariants.{Moment, Datagram, Packet, Rotate}}, outcome.Outcome.{Outcome}}
-use Rattle.relay_machine.specs.declared.outcome.Outcome.TheVariants.{Moved, Rotated, Advertised, Queried, BadSource, Undecoded, WrongKind, BadMac, Unlawful, Over, Updated, TornDown, NoTunnel, Copied}
+use Rattle.relay_machine.specs.declared.{event.Event.{Event, TheVariants.{Moment, Datagram, Packet, Rotate, Limits}}, outcome.Outcome.{Outcome}}
+use Rattle.relay_machine.specs.declared.outcome.Outcome.TheVariants.{Moved, Rotated, Resized, Advertised, Queried, BadSource, Undecoded, WrongKind, BadMac, Unlawful, Over, Updated, TornDown, NoTunnel, Copied}
 use Rattle.relay_machine.specs.{declared.{outcome.Unlawful.{Unlawful as Fault}, sends.OneSend.{OneSend}, settings.Settings.{Settings}}, Packets.{copies, head_to_copy, targets_at}, Queries.{query_for}, Settings.{table_settings_of}, Updates.{forwardable_records, report_in}}
 
 -- what an event comes to, what is sent, and what is entered in the accepted log
@@ -57,7 +57,7 @@ teardown_answer true false named moment = entered NoTunnel (Clear named moment)
 
 -- to a message of this source. An Update needs the MAC of its source, and a Teardown that of the
 -- endpoint which it names
-abbrev pub message_answer : Settings → Secrets → ℕ → List Change → EndpointValue → Message → EventAnswer
+abbrev pub message_answer : Settings → SecretsValue → ℕ → List Change → EndpointValue → Message → EventAnswer
 message_answer settings secrets moment log source (Discovery nonce) = replied Advertised source (Advertisement nonce settings.relay)
 message_answer settings secrets moment log source (Advertisement nonce relay) = quiet (WrongKind 2)
 message_answer settings secrets moment log source (Request v6 nonce) =
@@ -71,7 +71,7 @@ message_answer settings secrets moment log source (Teardown mac nonce named) =
     teardown_answer (is_good secrets named nonce mac) (is_live named (memberships_now (table_settings_of settings) log)) named moment
 
 -- to a datagram, judged by its source, its octets, its type, and then what it asks
-abbrev pub datagram_answer : Settings → Secrets → ℕ → List Change → Option EndpointValue → Result Message Refused → EventAnswer
+abbrev pub datagram_answer : Settings → SecretsValue → ℕ → List Change → Option EndpointValue → Result Message Refused → EventAnswer
 datagram_answer settings secrets moment log None reading = quiet BadSource
 datagram_answer settings secrets moment log (Some source) (Err refusal) = quiet (Undecoded refusal)
 datagram_answer settings secrets moment log (Some source) (Ok message) = message_answer settings secrets moment log source message
@@ -82,10 +82,11 @@ packet_answer targets packet (Err outcome) = quiet outcome
 packet_answer targets packet (Ok head) =
     record { outcome = Copied (length (targets head)); sends = copies (targets head) packet; entry = None }
 
--- to an event
-abbrev pub event_answer : Settings → Secrets → ℕ → List Change → Event → EventAnswer
+-- to an event, by settings with the limits that are in force
+abbrev pub event_answer : Settings → SecretsValue → ℕ → List Change → Event → EventAnswer
 event_answer settings secrets moment log (Moment reported) = entered (Moved (max moment reported)) (Mark (max moment reported))
 event_answer settings secrets moment log (Rotate secret) = quiet Rotated
+event_answer settings secrets moment log (Limits limits) = quiet Resized
 event_answer settings secrets moment log (Packet bytes) =
     packet_answer (targets_at (table_settings_of settings) log moment) bytes (head_to_copy settings.packet_limit bytes)
 event_answer settings secrets moment log (Datagram bytes from) =

@@ -4,7 +4,7 @@ use Rattle.amt_values.specs.declared.address.Ip.{Ip}
 use Rattle.endpoint_membership.specs.Table.{TableSettings}
 use Rattle.igmp_records.specs.Code.{code_value}
 use Rattle.mld_records.specs.Code.{code_value as mld_code_value}
-use Rattle.relay_machine.specs.declared.{number_key.NumberKey.{NumberKey, TheVariants.{Robustness, QuerySeconds, ResponseTenths, Endpoints, Groups, Sources, PacketLimit}}, settings.Settings.{Settings}}
+use Rattle.relay_machine.specs.declared.{number_key.NumberKey.{NumberKey, TheVariants.{Robustness, QuerySeconds, ResponseTenths, Secrets, Endpoints, Groups, Sources, PacketLimit}}, settings.Settings.{Settings}}
 
 -- a setting that is one number: its range, its default, the number in settings, and settings with
 -- another
@@ -17,12 +17,14 @@ pub record NumberRow : Type 0 where
 
 -- the table of these settings. The robustness isn't zero (RFC 3376, section 8.1), and three bits carry
 -- it (section 4.1.6); the greatest time that a query carries is 31,744 (section 4.1.7; sections 8.2 and
--- 8.3 have the defaults). A packet has at least an IPv4 header, and with two octets before it fits a
+-- 8.3 have the defaults). A gateway goes on using the last MAC that it was sent, so by default a secret
+-- outlives one rotation (RFC 7450, section 5.3.6). A packet has at least an IPv4 header, and with two octets before it fits a
 -- UDP payload
 abbrev pub number_row : NumberKey → NumberRow
 number_row Robustness = record { least = 1; most = 7; default = 2; number = λ s. s.robustness; with = λ s n. record s { robustness = n } }
 number_row QuerySeconds = record { least = 1; most = 31744; default = 125; number = λ s. s.query_seconds; with = λ s n. record s { query_seconds = n } }
 number_row ResponseTenths = record { least = 1; most = 31744; default = 100; number = λ s. s.response_tenths; with = λ s n. record s { response_tenths = n } }
+number_row Secrets = record { least = 1; most = 4; default = 2; number = λ s. s.secrets; with = λ s n. record s { secrets = n } }
 number_row Endpoints = record { least = 1; most = 65536; default = 1024; number = λ s. s.limits.endpoints; with = λ s n. record s { limits = record s.limits { endpoints = n } } }
 number_row Groups = record { least = 1; most = 256; default = 64; number = λ s. s.limits.groups; with = λ s n. record s { limits = record s.limits { groups = n } } }
 number_row Sources = record { least = 1; most = 64; default = 64; number = λ s. s.limits.sources; with = λ s n. record s { limits = record s.limits { sources = n } } }
@@ -73,6 +75,7 @@ default_settings relay = record {
   robustness = (number_row Robustness).default;
   query_seconds = (number_row QuerySeconds).default;
   response_tenths = (number_row ResponseTenths).default;
+  secrets = (number_row Secrets).default;
   limits = record {
     endpoints = (number_row Endpoints).default;
     groups = (number_row Groups).default;

@@ -3,7 +3,7 @@ ghost use Rattle.std.specs.Prelude.{◌≡◌, ◌≤◌, length, IfOk, OnErr};
 ghost use Rattle.amt_messages.specs.{Messages.{IsSendable}, Refusal.{message_of}};
 ghost use Rattle.amt_values.specs.{Endpoint.{endpoint_of}, Octets.{AreOctets}};
 ghost use Rattle.endpoint_membership.specs.{Log.{latest}, Table.{IsWithinLimits}};
-ghost use Rattle.relay_machine.specs.{EventAnswer.{datagram_answer, message_answer}, Logs.{AnswersByLog}, Sends.{AreShort}, Settings.{table_settings_of}};
+ghost use Rattle.relay_machine.specs.{EventAnswer.{datagram_answer, message_answer}, Logs.{AnswersByLog, settings_in_force}, Sends.{AreShort}, Settings.{table_settings_of}};
 
 use crate::discovery::take_discovery;
 use crate::outcome::Outcome;
@@ -31,7 +31,8 @@ fn take_message(
     requires sendable { IsSendable message.now }
     requires within { IsWithinLimits table.old }
     ensures answers { AnswersByLog (table_settings_of setup.now.settings) table.old table.new result (λ log.
-        message_answer setup.now.settings secrets.now (latest log) log source message.now) }
+        message_answer (settings_in_force setup.now.settings table.old) secrets.now (latest log) log
+        source message.now) }
     ensures err { OnErr result (table.new ≡ table.old) }
     ensures within { IsWithinLimits table.new }
     ensures short { IfOk result (λ step. AreShort step.sends) }
@@ -71,7 +72,7 @@ pub fn take_datagram(
     requires size { length bytes.now ≤ 65535 }
     requires within { IsWithinLimits table.old }
     ensures answers { AnswersByLog (table_settings_of setup.now.settings) table.old table.new result (λ log.
-        datagram_answer setup.now.settings secrets.now (latest log) log
+        datagram_answer (settings_in_force setup.now.settings table.old) secrets.now (latest log) log
         (endpoint_of from.now) (message_of bytes.now)) }
     ensures err { OnErr result (table.new ≡ table.old) }
     ensures within { IsWithinLimits table.new }

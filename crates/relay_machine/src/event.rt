@@ -1,5 +1,6 @@
 //! What happens to a relay.
 use amt_values::{Bytes, Moment, Peer};
+use endpoint_membership::Limits;
 use response_mac::Secret;
 
 /// What happens to a relay.
@@ -14,4 +15,7 @@ pub enum Event {
     Packet { bytes: Bytes },
     /// A new private secret was drawn (RFC 7450, section 5.3.6).
     Rotate(Secret),
+    /// Other limits are in force from now on: each is at least 1, and at most that of the settings.
+    /// Lower limits refuse what would grow, and drop nothing.
+    Limits(Limits),
 }

@@ -8,6 +8,7 @@ pub enum NumberKey {
     Robustness,
     QuerySeconds,
     ResponseTenths,
+    Secrets,
     Endpoints,
     Groups,
     Sources,
@@ -15,10 +16,11 @@ pub enum NumberKey {
 }
 
 /// All keys, in the order of [`NumberKey`].
-pub const NUMBER_KEYS: [NumberKey; 7] = [
+pub const NUMBER_KEYS: [NumberKey; 8] = [
     NumberKey::Robustness,
     NumberKey::QuerySeconds,
     NumberKey::ResponseTenths,
+    NumberKey::Secrets,
     NumberKey::Endpoints,
     NumberKey::Groups,
     NumberKey::Sources,
@@ -44,6 +46,7 @@ impl NumberKey {
             NumberKey::Robustness => (1, 7, 2),
             NumberKey::QuerySeconds => (1, 31_744, 125),
             NumberKey::ResponseTenths => (1, 31_744, 100),
+            NumberKey::Secrets => (1, 4, 2),
             NumberKey::Endpoints => (1, 65_536, 1024),
             NumberKey::Groups => (1, 256, 64),
             NumberKey::Sources => (1, 64, 64),

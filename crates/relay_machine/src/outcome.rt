@@ -25,7 +25,7 @@ pub enum NotForwarded {
 }
 
 /// What an event came to. A datagram is judged by its source, then by its octets, then by its type;
-/// an Update by its MAC, then by the report in it, then by the relay's limits; a Teardown by its MAC
+/// an Update by its MAC, then by the report in it, then by the limits in force; a Teardown by its MAC
 /// for the tunnel endpoint that it names, whatever its source. A packet is judged by its length, then
 /// by its head, then by its group's scope.
 #[derive(Clone, Copy, Debug, PartialEq, Eq)]
@@ -34,6 +34,8 @@ pub enum Outcome {
     Moved(Moment),
     /// A secret became the current one.
     Rotated,
+    /// Other limits are in force.
+    Resized,
     /// The source is an IPv6 address in ::/96 or ::ffff:0:0/96, which stand for IPv4 addresses
     /// (RFC 4291, section 2.5.5).
     BadSource,
@@ -53,7 +55,7 @@ pub enum Outcome {
     BadMac,
     /// An Update with a good MAC carries no membership report.
     Unlawful(Unlawful),
-    /// With the report of an Update the memberships would pass a limit of the relay.
+    /// With the report of an Update the memberships would pass a limit in force at the relay.
     Over(LimitFault),
     /// The report of an Update was accepted.
     Updated,

@@ -47,7 +47,8 @@ impl Relay {
 
     /// A relay at moment 0, whose current secret is this one, without memberships.
     ///
-    /// Whatever events may come, the memberships by their accepted log are within the settings' limits.
+    /// Whatever events may come, the memberships by their accepted log are within the settings' limits,
+    /// which are the greatest that are ever in force.
     pub fn new(alloc: Global, settings: Settings, secret: Secret) -> Result<Relay, AllocError>
         requires { AreLawfulSettings settings }
         ensures stands { IfOk result (λ relay. RelayAt relay settings secret []) }
@@ -58,7 +59,7 @@ impl Relay {
         let targets = Targets::new(alloc, settings.limits.endpoints)?;
         Ok(Relay {
             setup: Setup::new(settings),
-            secrets: Secrets::new(secret),
+            secrets: Secrets::new(settings.secrets, secret),
             table,
             targets,
         })
@@ -94,7 +95,7 @@ impl Relay {
     /// Takes one event. Where memory ran out the relay is as before, and the event may be given
     /// again.
     pub fn step(&mut self, alloc: Global, event: &Event) -> Result<Step, AllocError>
-        requires { IsEvent event.now }
+        requires { IsEvent (settings_of self.old) event.now }
         ensures outcome { After self.old (λ settings first events.
             IfOk result (λ step. step.outcome ≡ outcome_of settings first events event.now)) }
         ensures sends { After self.old (λ settings first events.
@@ -123,8 +124,8 @@ impl Relay {
             → IfOk result (λ step. step.change ≡ None → self.new ≡ self.old)) }
         ensures err { OnErr result (self.new ≡ self.old) }
 
-        // An Update of an endpoint under a good MAC, with a lawful report and within the limits, adds
-        // the report's records on forwardable groups at the relay's moment, and no other event is
+        // An Update of an endpoint under a good MAC, with a lawful report that fits the limits in force,
+        // adds the report's records on forwardable groups at the relay's moment, and no other event is
         // `Updated` (RFC 7450, section 5.3.3).
         ensures updated { After self.old (λ settings first events.
             (endpoint : EndpointValue) (records : List RecordValue)
@@ -151,7 +152,8 @@ impl Relay {
             → IfOk result (λ step. AreCopies (wants_after settings first events head) packet step.sends
             × (step.outcome ≡ Copied (length step.sends)))) }
 
-        // A moment and a secret take no memory, so time moves on and secrets age whatever is left.
+        // A moment, a secret and new limits take no memory, so time moves on, secrets age and limits are
+        // lowered whatever is left.
         ensures sure { ¬ IsPayload event.now → IsOk result }
     {
         match event {
@@ -170,6 +172,10 @@ impl Relay {
             Event::Rotate(secret) => {
                 self.secrets.rotate(*secret);
                 Ok(Step::quiet(alloc, Outcome::Rotated))
+            }
+            Event::Limits(limits) => {
+                self.table.set_limits(limits);
+                Ok(Step::quiet(alloc, Outcome::Resized))
             }
         }
     }

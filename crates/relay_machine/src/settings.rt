@@ -1,5 +1,6 @@
 //! What a relay is set up with, by the table of numbers. It knows no script and no file that says it.
 ghost use Rattle.std.specs.Prelude.{◌≡◌, ◌≤◌, ◌*◌, ◌↔◌, IsTrue, IsFalse};
+ghost use Rattle.endpoint_membership.specs.Limits.{AreWithin};
 ghost use Rattle.relay_machine.specs.{declared.number_key.NumberKey.{NumberKey as Key}, Settings.{AreLawfulSettings, HasCode, HasMldCode, HasQueryTimes, IsInKeyRange, default_settings, membership_interval_ms, number_at, with_number}};
 
 use crate::number_key::{NUMBER_KEYS, NumberKey};
@@ -29,8 +30,11 @@ pub struct Settings {
     /// The tenths of a second within which a listener answers a General Query (RFC 3376, section
     /// 8.3).
     pub response_tenths: u32,
+    /// How many secrets the relay keeps, the newest ones: the MACs of each are good (RFC 7450, section
+    /// 5.3.6).
+    pub secrets: u32,
     /// How much the relay keeps: live tunnel endpoints, groups of one, sources of one group; and at
-    /// most 16,777,216 sources in all.
+    /// most 16,777,216 sources in all. Lower ones may be in force for a time.
     pub limits: Limits,
     /// The longest packet that is copied, in octets. A packet of more is dropped, since the tunnel's
     /// datagrams aren't fragmented here.
@@ -51,6 +55,7 @@ impl Settings {
             robustness: NumberKey::Robustness.range().default as u8,
             query_seconds: NumberKey::QuerySeconds.range().default,
             response_tenths: NumberKey::ResponseTenths.range().default,
+            secrets: NumberKey::Secrets.range().default,
             limits: Limits {
                 endpoints: NumberKey::Endpoints.range().default,
                 groups: NumberKey::Groups.range().default,
@@ -68,6 +73,7 @@ impl Settings {
             NumberKey::Robustness => u32::from(self.robustness),
             NumberKey::QuerySeconds => self.query_seconds,
             NumberKey::ResponseTenths => self.response_tenths,
+            NumberKey::Secrets => self.secrets,
             NumberKey::Endpoints => self.limits.endpoints,
             NumberKey::Groups => self.limits.groups,
             NumberKey::Sources => self.limits.sources,
@@ -96,6 +102,7 @@ impl Settings {
             NumberKey::Robustness => self.robustness = number as u8,
             NumberKey::QuerySeconds => self.query_seconds = number,
             NumberKey::ResponseTenths => self.response_tenths = number,
+            NumberKey::Secrets => self.secrets = number,
             NumberKey::Endpoints => self.limits.endpoints = number,
             NumberKey::Groups => self.limits.groups = number,
             NumberKey::Sources => self.limits.sources = number,
@@ -136,6 +143,16 @@ impl Settings {
             && has_mld_code(self.response_tenths * 100)
     }
 
+    /// Whether these limits may be in force at a relay of these settings: each is at least 1, and at
+    /// most that of the settings.
+    pub fn allows_limits(&self, limits: &Limits) -> bool
+        ensures { IsTrue result ↔ AreWithin self.now.limits limits.now }
+    {
+        is_from_one_to(self.limits.endpoints, limits.endpoints)
+            && is_from_one_to(self.limits.groups, limits.groups)
+            && is_from_one_to(self.limits.sources, limits.sources)
+    }
+
     /// How long a membership report counts, in milliseconds (RFC 3376, section 8.4).
     pub fn lifetime_ms(&self) -> u64
         ensures { result ≡ membership_interval_ms self.now }
@@ -157,6 +174,12 @@ fn has_mld_code(time: u32) -> bool
     ensures { IsTrue result ↔ HasMldCode time }
 {
     value_code6(time).is_some()
+}
+
+fn is_from_one_to(most: u32, number: u32) -> bool
+    ensures { IsTrue result ↔ ((1 ≤ number) × (number ≤ most)) }
+{
+    number >= 1 && number <= most
 }
 
 fn has_lawful_product(limits: &Limits) -> bool

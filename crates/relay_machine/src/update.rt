@@ -1,7 +1,7 @@
 //! What an Update comes to: its MAC, its report, the limits. It knows no datagram and no other message.
 ghost use Rattle.std.specs.Prelude.{◌≡◌, ◌≤◌, length, IfOk, OnErr};
 ghost use Rattle.source_filter.specs.Record.{item_count};
-ghost use Rattle.endpoint_membership.specs.{Log.{latest}, Table.{IsWithinLimits, TableSettings, limit_passed}, declared.change.Change.TheVariants.{Reported}};
+ghost use Rattle.endpoint_membership.specs.{Log.{latest}, Table.{IsWithinLimits, TableSettings, in_force_of, limit_passed}, declared.change.Change.TheVariants.{Reported}};
 ghost use Rattle.relay_machine.specs.{EventAnswer.{limited_answer, update_answer}, Logs.{AnswersByLog}, Sends.{AreShort}, Updates.{report_in}};
 
 use crate::outcome::Outcome;
@@ -22,7 +22,7 @@ fn accept(
     requires within { IsWithinLimits table.old }
     requires items { item_count records ≤ 65535 }
     ensures answers { (terms : TableSettings) → AnswersByLog terms table.old table.new result (λ log.
-        limited_answer (limit_passed terms log source records (latest log))
+        limited_answer (limit_passed (in_force_of terms table.old) log source records (latest log))
         (Reported source records (latest log))) }
     ensures err { OnErr result (table.new ≡ table.old) }
     ensures within { IsWithinLimits table.new }
@@ -56,7 +56,8 @@ pub fn take_update(
     requires size { length inner.now ≤ 65535 }
     ensures answers { (terms : TableSettings) → AnswersByLog terms table.old table.new result (λ log.
         update_answer good (report_in inner.now)
-        (λ records. limit_passed terms log source records (latest log)) source (latest log)) }
+        (λ records. limit_passed (in_force_of terms table.old) log source records (latest log))
+        source (latest log)) }
     ensures err { OnErr result (table.new ≡ table.old) }
     ensures within { IsWithinLimits table.new }
     ensures short { IfOk result (λ step. AreShort step.sends) }

@@ -2,11 +2,11 @@
 use Rattle.std.{proofs.{Common.{◌≡◌, ◌≤◌, ℕ, ◌+◌, Bool, true, false, List, [], ◌∷◌, ◌++◌, length, map, refl, sym, ap, subst, ◌∙◌, arith}, lemmas.List.{length-map, Sums.{count_by-le-length}}}, specs.Prelude.{Option, Some, None, Result, Ok, Err, count_by}}
 use Rattle.amt_values.specs.{Endpoint.{endpoint_of}, EndpointValue.{EndpointValue}, declared.peer.Peer.{Peer}}
 use Rattle.amt_messages.specs.{declared.{message.Message.{Message, TheVariants.{Discovery, Advertisement, Request, Query, Update, Multicast, Teardown}}, refusal.Refused.{Refused}}, Refusal.{message_of}}
-use Rattle.response_mac.specs.{declared.{secret.Secret.{Secret}, secrets.Secrets.{Secrets}}, ResponseMac.{is_good}}
+use Rattle.response_mac.specs.{declared.secret.Secret.{Secret}, ResponseMac.{SecretsValue, is_good}}
 use Rattle.source_filter.specs.declared.record.Record.{Record}
 use Rattle.endpoint_membership.specs.{Memberships.{is_live}, Table.{limit_passed, memberships_now}, declared.{change.Change.{Change}, limits.LimitFault.{LimitFault}}}
 use Rattle.relay_machine.specs.{declared.{event.Event.{Event, TheVariants.{Datagram, Rotate}}, outcome.{Outcome.{Outcome, TheVariants.{Rotated}}, Unlawful.{Unlawful}}, sends.OneSend.{OneSend}, settings.Settings.{Settings}}, Accepted.{accepted_log}, Answers.{outcome_of, sends_of}}
-use Rattle.relay_machine.{specs.{Courses.{each_after, is_torn, is_updated, outcomes_of}, EventAnswer.{EventAnswer, datagram_answer, limited_answer, message_answer, teardown_answer, update_answer}, Events.{now_of, secrets_of}, Settings.{table_settings_of}, Updates.{forwardable_records, report_in}}, proofs.Courses.{each_more, sum_more}}
+use Rattle.relay_machine.{specs.{Courses.{each_after, is_torn, is_updated, outcomes_of}, EventAnswer.{EventAnswer, datagram_answer, limited_answer, message_answer, teardown_answer, update_answer}, Events.{now_of, secrets_of, settings_at}, Settings.{table_settings_of}, Updates.{forwardable_records, report_in}}, proofs.Courses.{each_more, sum_more}}
 use Rattle.amt_ports.specs.Devices.{LinkSeen}
 use Rattle.replication_workers.specs.Replication.{to_peer}
 use Rattle.relay_serving.specs.{Counting.{CountsAlike, HasAnswered, IsCounted, is_datagram, is_packet, no_counts, one_if, with_late, with_outcome}, Happenings.{Happening, events_among}, declared.counts.Counts.{Counts}}
@@ -121,7 +121,7 @@ teardown-few false live named moment = omega arith
 teardown-few true true named moment = omega arith
 teardown-few true false named moment = omega arith
 
-message-few : (settings : Settings) (secrets : Secrets) (moment : ℕ) (log : List Change) (source : EndpointValue) (message : Message)
+message-few : (settings : Settings) (secrets : SecretsValue) (moment : ℕ) (log : List Change) (source : EndpointValue) (message : Message)
     → HasFew (message_answer settings secrets moment log source message)
 message-few settings secrets moment log source (Discovery nonce) = omega arith
 message-few settings secrets moment log source (Advertisement nonce relay) = omega arith
@@ -133,7 +133,7 @@ message-few settings secrets moment log source (Multicast packet) = omega arith
 message-few settings secrets moment log source (Teardown mac nonce named) =
     teardown-few (is_good secrets named nonce mac) (is_live named (memberships_now (table_settings_of settings) log)) named moment
 
-datagram-few : (settings : Settings) (secrets : Secrets) (moment : ℕ) (log : List Change) (source : Option EndpointValue) (reading : Result Message Refused)
+datagram-few : (settings : Settings) (secrets : SecretsValue) (moment : ℕ) (log : List Change) (source : Option EndpointValue) (reading : Result Message Refused)
     → HasFew (datagram_answer settings secrets moment log source reading)
 datagram-few settings secrets moment log None reading = omega arith
 datagram-few settings secrets moment log (Some source) (Err refusal) = omega arith
@@ -144,7 +144,7 @@ pub answers-few : (settings : Settings) (first : Secret) (earlier : List Event) 
 answers-few settings first earlier bytes from sends all are same =
     subst (λ (list : List OneSend). length list ≤ 1) (sym same)
     (subst (λ (list : List OneSend). length list ≤ 1) (sym are)
-    (datagram-few settings (secrets_of first earlier) (now_of earlier) (accepted_log settings first earlier) (endpoint_of from) (message_of bytes)))
+    (datagram-few (settings_at settings earlier) (secrets_of settings first earlier) (now_of earlier) (accepted_log settings first earlier) (endpoint_of from) (message_of bytes)))
 
 -- such a datagram is counted before its answers are
 pub datagram-room : (before after : Counts) (bytes : List ℕ) (from : Peer) (outcome : Outcome) → after ≡ with_outcome before (Datagram bytes from) outcome → before.sent + before.unsent ≤ before.datagrams

@@ -5,7 +5,7 @@ use Rattle.endpoint_membership.specs.{Limits.{IsWithin}, Table.{memberships_now}
 use Rattle.published_table.specs.{Terms.{Fits}, declared.terms.Terms.{Terms}}
 use Rattle.response_mac.specs.declared.secret.Secret.{Secret}
 use Rattle.relay_machine.specs.{Accepted.{change_of, with_change}, Answers.{RelayAt, settings_of}, Courses.{each_after}, Published.{published_log}, Settings.{AreLawfulSettings, table_settings_of}, declared.event.Event.{Event}}
-use Rattle.relay_machine.{specs.declared.{event.Event.TheVariants.{Moment, Datagram, Packet, Rotate}, relay.Relay.{Relay}, settings.Settings.{Settings}}, proofs.{Courses.{each_more}, PublishedLog.{published_log-next, published_log-none, published_log-within}}}
+use Rattle.relay_machine.{specs.declared.{event.Event.TheVariants.{Moment, Datagram, Packet, Rotate, Limits}, relay.Relay.{Relay}, settings.Settings.{Settings}}, proofs.{Courses.{each_more}, PublishedLog.{published_log-next, published_log-none, published_log-within}}}
 use Rattle.replication_workers.specs.SlotStates.{SlotState}
 use Rattle.relay_serving.{specs.{Counting.{is_packet}, GivenOut.{AreGivenOut, terms_by}, Happenings.{Happening, Took, published_events_among}, Sending.{Due, due_to, dues_after}}, proofs.Happenings.{published-next}}
 
@@ -62,6 +62,7 @@ pub none_due : (settings : Settings) (first : Secret) (past : List Happening) (e
 none_due settings first past (Moment moment) other = refl
 none_due settings first past (Datagram bytes from) other = refl
 none_due settings first past (Rotate secret) other = refl
+none_due settings first past (Limits limits) other = refl
 none_due settings first past (Packet bytes) other = absurd (no other)
   where
     no : true ≡ false → ⊥

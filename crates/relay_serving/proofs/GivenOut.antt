@@ -5,7 +5,7 @@ use Rattle.logbook.specs.Pages.{Book}
 use Rattle.amt_ports.specs.declared.out_link.OutLink.{Ghosts}
 use Rattle.published_table.specs.Views.{named, publisher_of}
 use Rattle.response_mac.specs.declared.secret.Secret.{Secret}
-use Rattle.relay_machine.specs.{Events.{now_of}, Published.{published_log}, declared.{event.Event.{Event, TheVariants.{Moment, Datagram, Packet, Rotate}}, settings.Settings.{Settings}}}
+use Rattle.relay_machine.specs.{Events.{now_of}, Published.{published_log}, declared.{event.Event.{Event, TheVariants.{Moment, Datagram, Packet, Rotate, Limits}}, settings.Settings.{Settings}}}
 use Rattle.replication_workers.specs.{Dispatchers.{slot_for}, Replicators.{view_of}, SlotStates.{SlotState, jobs_in_all, with_job}, declared.{job.Job.{Job}, replicator.Replicator.{Replicator}}}
 use Rattle.relay_serving.{specs.{Counting.{is_packet}, GivenOut.{AreGivenOut, AreOfPublisher, jobs_at, slots_after, starts_in}, Happenings.{Happening, Took, Published, events_among, published_events_among}, Sending.{due_of, due_to, dues_after}}, proofs.Entering.{dues-next}}
 
@@ -98,6 +98,7 @@ one_due : (settings : Settings) (first : Secret) (earlier : List Happening) (eve
 one_due settings first earlier (Moment moment) = refl
 one_due settings first earlier (Datagram bytes from) = refl
 one_due settings first earlier (Rotate secret) = refl
+one_due settings first earlier (Limits limits) = refl
 one_due settings first earlier (Packet bytes) = refl
 
 dues-counted : (settings : Settings) (first : Secret) (earlier later : List Happening) → length (dues_after settings first earlier later) ≡ count_by is_packet (events_among later)

@@ -19,7 +19,7 @@ pub RelayAt-packet : (relay : Relay) (settings : Settings) (first : Secret) (eve
 RelayAt-packet relay settings first events bytes at =
     let log = accepted_log settings first events in
     let none = enters_none (targets_at (table_settings_of settings) log (now_of events)) bytes (head_to_copy settings.packet_limit bytes) in
-    RelayAt-payload relay relay settings first events (Packet bytes) at tt refl refl
+    RelayAt-payload relay relay settings first events (Packet bytes) at tt refl refl refl
     (subst (λ (entry : Option Change). Holds (table_settings_of settings) relay.table (with_change log entry)) (sym none) at.table)
 
 pub published_log-packet : (settings : Settings) (first : Secret) (events : List Event) (bytes : List ℕ)

@@ -2,7 +2,7 @@
 use Rattle.std.specs.Prelude.{◌≡◌, ℕ, ◌+◌, ◌≤◌, Bool, true, false, List, length, count_by, if◌then◌else◌}
 use Rattle.amt_values.specs.declared.peer.Peer.{Peer}
 use Rattle.response_mac.specs.declared.secret.Secret.{Secret}
-use Rattle.relay_machine.specs.{Courses.{is_torn, is_updated, outcomes_of}, declared.{event.Event.{Event, TheVariants.{Moment, Datagram, Packet, Rotate}}, outcome.Outcome.{Outcome}, settings.Settings.{Settings}}}
+use Rattle.relay_machine.specs.{Courses.{is_torn, is_updated, outcomes_of}, declared.{event.Event.{Event, TheVariants.{Moment, Datagram, Packet, Rotate, Limits}}, outcome.Outcome.{Outcome}, settings.Settings.{Settings}}}
 use Rattle.amt_ports.specs.{Devices.{LinkSeen}, Tried.{HasTried}}
 use Rattle.relay_serving.specs.{Turns.{Turn, is_refused}, declared.counts.Counts.{Counts}}
 
@@ -11,12 +11,14 @@ is_datagram (Datagram bytes from) = true
 is_datagram (Packet bytes) = false
 is_datagram (Moment moment) = false
 is_datagram (Rotate secret) = false
+is_datagram (Limits limits) = false
 
 abbrev pub is_packet : Event → Bool
 is_packet (Packet bytes) = true
 is_packet (Datagram bytes from) = false
 is_packet (Moment moment) = false
 is_packet (Rotate secret) = false
+is_packet (Limits limits) = false
 
 -- how many datagrams and packets there were, and how many Updates and Teardowns were accepted
 pub record AreCounted (settings : Settings) (first : Secret) (events : List Event) (datagrams packets updated torn : ℕ) : Type 0 where

@@ -4,7 +4,7 @@ use Rattle.amt_values.specs.declared.peer.Peer.{Peer}
 use Rattle.endpoint_membership.specs.declared.change.Change.{Change}
 use Rattle.published_table.specs.Views.{named}
 use Rattle.response_mac.specs.declared.secret.Secret.{Secret}
-use Rattle.relay_machine.specs.{declared.{event.Event.{Event, TheVariants.{Moment, Datagram, Packet, Rotate}}, settings.Settings.{Settings}}, Answers.{sends_of}, Courses.{each_after}, Events.{now_of}, Published.{published_log}}
+use Rattle.relay_machine.specs.{declared.{event.Event.{Event, TheVariants.{Moment, Datagram, Packet, Rotate, Limits}}, settings.Settings.{Settings}}, Answers.{sends_of}, Courses.{each_after}, Events.{now_of}, Published.{published_log}}
 use Rattle.replication_workers.specs.{Replication.{to_peer}, declared.job.Job.{Job}}
 use Rattle.relay_serving.specs.Happenings.{Happening, Took, Published, events_among, published_events_among}
 
@@ -14,6 +14,7 @@ answers_to settings first earlier (Datagram bytes from) = map to_peer (sends_of 
 answers_to settings first earlier (Packet bytes) = []
 answers_to settings first earlier (Moment moment) = []
 answers_to settings first earlier (Rotate secret) = []
+answers_to settings first earlier (Limits limits) = []
 
 -- those to later events, in order
 abbrev pub answers_after : Settings → Secret → List Event → List Event → List (Peer × List ℕ)
@@ -32,6 +33,7 @@ due_to settings first earlier (Took (Packet bytes)) =
 due_to settings first earlier (Took (Datagram bytes from)) = []
 due_to settings first earlier (Took (Moment moment)) = []
 due_to settings first earlier (Took (Rotate secret)) = []
+due_to settings first earlier (Took (Limits limits)) = []
 due_to settings first earlier Published = []
 
 abbrev pub dues_after : Settings → Secret → List Happening → List Happening → List Due

@@ -71,7 +71,7 @@ impl Counts {
         match event {
             Event::Datagram { .. } => self.datagrams += 1,
             Event::Packet { .. } => self.packets += 1,
-            Event::Moment(_) | Event::Rotate(_) => {}
+            Event::Moment(_) | Event::Rotate(_) | Event::Limits(_) => {}
         }
         match outcome {
             Outcome::Updated => self.updated += 1,

@@ -46,6 +46,13 @@ impl MacKey {
         }
     }
 
+    /// The secret that it is made of.
+    pub fn secret(&self) -> Secret
+        ensures { result ≡ self.now }
+    {
+        self.secret
+    }
+
     /// The response MAC that a relay sends to an endpoint in answer to its request.
     #[tactic(auto, unfolding(crate::specs::ResponseMac::mac_of))]
     pub fn mac(&self, endpoint: &Endpoint, nonce: u32) -> Mac48

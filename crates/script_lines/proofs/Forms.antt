@@ -70,6 +70,17 @@ pub two_fit : (one other : Form) (text next : List ℕ) → ((reason : Reason) �
 two_fit one other text next fits fits_next reasons.Count fails = fails refl
 two_fit one other text next fits fits_next reason fails = both_fit one other text next fits fits_next reason fails
 
+each_fits : (one other last : Form) (text next end : List ℕ) → ((reason : Reason) → Fails one text reason → ⊥) → ((reason : Reason) → Fails other next reason → ⊥)
+    → ((reason : Reason) → Fails last end reason → ⊥) → (reason : Reason) → SomeFails (one ∷ other ∷ last ∷ []) None (text ∷ next ∷ end ∷ []) reason → ⊥
+each_fits one other last text next end fits fits_next fits_end reason (inl h) = fits reason h
+each_fits one other last text next end fits fits_next fits_end reason (inr later) = both_fit other last next end fits_next fits_end reason later
+
+pub three_fit : (one other last : Form) (text next end : List ℕ) → ((reason : Reason) → Fails one text reason → ⊥) → ((reason : Reason) → Fails other next reason → ⊥)
+    → ((reason : Reason) → Fails last end reason → ⊥)
+    → (reason : Reason) → FailsIn (record { forms = one ∷ other ∷ last ∷ []; repeated = None }) (text ∷ next ∷ end ∷ []) reason → ⊥
+three_fit one other last text next end fits fits_next fits_end reasons.Count fails = fails refl
+three_fit one other last text next end fits fits_next fits_end reason fails = each_fits one other last text next end fits fits_next fits_end reason fails
+
 -- the dash is no hexadecimal text
 dash_is_no_hex : (bytes text : List ℕ) → text ≡ codes "-" → decode_of text ≡ Ok bytes → ⊥
 dash_is_no_hex bytes text dash read = cc (sym (decode_of-odd (codes "-") refl) ∙ (ap decode_of (sym dash) ∙ read))

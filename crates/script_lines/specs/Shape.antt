@@ -37,3 +37,13 @@ pub record HasTwoFields (words : List (List ℕ)) (IsText IsNext : List ℕ → 
   pub parts : line ≡ words ++ text ∷ next ∷ []
   pub names : IsText text
   pub names_next : IsNext next
+
+-- the line is these words, and three fields of these texts
+pub record HasThreeFields (words : List (List ℕ)) (IsText IsNext IsLast : List ℕ → Type 0) (line : List (List ℕ)) : Type 0 where
+  pub text : List ℕ
+  pub next : List ℕ
+  pub last : List ℕ
+  pub parts : line ≡ words ++ text ∷ next ∷ last ∷ []
+  pub names : IsText text
+  pub names_next : IsNext next
+  pub names_last : IsLast last

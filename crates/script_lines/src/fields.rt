@@ -65,3 +65,17 @@ pub fn two_fields(line: &[u8]) -> Option<(&[u8], &[u8])>
         None => None,
     }
 }
+
+/// The three fields of a line.
+pub fn three_fields(line: &[u8]) -> Option<(&[u8], &[u8], &[u8])>
+    ensures found { IfSome result (λ parts. fields line.now ≡ parts.0.now ∷ parts.1.now ∷ parts.2.now ∷ []) }
+    ensures none { IfNone result (length (fields line.now) ≢ 3) }
+{
+    let Some((first, rest)) = next_field(line) else {
+        return None;
+    };
+    match two_fields(rest) {
+        Some((second, third)) => Some((first, second, third)),
+        None => None,
+    }
+}

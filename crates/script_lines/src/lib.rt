@@ -24,7 +24,7 @@ mod values;
 
 pub use addresses::{append_ip, append_peer};
 pub use fault::{LineError, RunFault, ScriptError};
-pub use fields::{is_word, next_field, only_field, two_fields};
+pub use fields::{is_word, next_field, only_field, three_fields, two_fields};
 pub use held::{HELD_SIZE, write_held, write_where_full};
 pub use kind::ScriptKind;
 pub use lines::{next_line, without_carriage_return};
@@ -36,6 +36,7 @@ pub use reason::Reason;
 pub use running::{ScriptRun, run_script};
 pub use text::{append_closing, append_hex, append_nonce, append_numbered, append_send};
 pub use values::{
-    OctetsError, is_name, mode_word, read_address, read_address4, read_address6, read_family,
-    read_group, read_mode, read_moment, read_nonce, read_number, read_octets, read_secret,
+    OctetsError, is_name, is_number, mode_word, read_address, read_address4, read_address6,
+    read_family, read_group, read_mode, read_moment, read_nonce, read_number, read_octets,
+    read_secret,
 };

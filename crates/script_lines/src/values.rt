@@ -1,7 +1,7 @@
 //! Fields that are numbers, octets, secrets and addresses. It knows no kind of line.
 
 ghost use Rattle.std.specs.Prelude.{◌≡◌, ◌≤◌, ◌<◌, ◌^◌, ◌⊎◌, ℕ, List, IfOk, IfErr, IfSome, IfNone, IsErrOf, IsTrue, Some, ◌↔◌};
-ghost use Rattle.amt_values.specs.{declared.address.Ip.{Ip as IpValue, TheVariants.{V4, V6}}, Text.{IsIpText}};
+ghost use Rattle.amt_values.specs.{declared.address.Ip.{Ip as IpValue, TheVariants.{V4, V6}}, Numeral.{IsNumeral}, Text.{IsIpText}};
 ghost use Rattle.script_lines.specs.{Texts.{mode_text}, Form.{Fails, IsAddressText, IsFamilyText, IsGroupText, IsHexText, IsModeText, IsMomentText, IsName, IsNameOctet, IsNonceText, IsNumberText, IsSecretText, a_family, a_group, a_mode, a_moment, a_nonce, a_number, a_secret, an_address4, an_address6, an_address_of, is_of, some_octets}};
 
 use crate::reason::Reason;
@@ -58,6 +58,18 @@ pub fn read_number(text: &[u8], least: u32, most: u32) -> Result<u32, Reason>
         }
         Err(NumeralFault::TooLarge) => Err(Reason::Range),
         Err(NumeralFault::NotDecimal) => Err(Reason::Number),
+    }
+}
+
+/// Whether a field is a decimal number without a leading zero, however large it is.
+#[tactic(auto, using(crate::proofs::Numbers::numeral_of_number))]
+pub fn is_number(text: &[u8]) -> bool
+    ensures { IsTrue result ↔ IsNumeral text.now }
+{
+    match parse_numeral(text) {
+        Ok(_) => true,
+        Err(NumeralFault::TooLarge) => true,
+        Err(NumeralFault::NotDecimal) => false,
     }
 }
 

@@ -1,8 +1,8 @@
-//! What an endpoint wants of each group before a report.
+//! What an endpoint wants of each group before a report, and how long the list of a group is.
 
-ghost use Rattle.std.specs.{Prelude.{◌≡◌, ◌≤◌, IfOk}, BTreeMap.{get}};
+ghost use Rattle.std.specs.{Prelude.{◌≡◌, ◌≤◌, ◌+◌, nat_lt, length, IfOk, OnOk, if◌then◌else◌}, BTreeMap.{get}, List.{filter}};
 ghost use Rattle.amt_values.specs.{declared.address.Ip.{Ip as Address}, Order.{ip_order}, Ascending.{IsAscending}};
-ghost use Rattle.endpoint_membership.specs.{Effective.{IsInOrder}, EndpointMemberships.{renewed_filter_of}, Membership.{is_fresh}, Memberships.{membership_in}, Stored.{only}};
+ghost use Rattle.endpoint_membership.specs.{Effective.{IsInOrder}, EndpointMemberships.{renewed_filter_of}, Limits.{size_at}, Membership.{is_fresh, membership_order}, Memberships.{membership_in}, Stored.{only}};
 
 use super::StoredMemberships;
 use crate::after_report::{RenewedFilter, set_filter};
@@ -27,6 +27,19 @@ fn renewed_filter_of(alloc: Global, stored: &StoredFilter) -> Result<RenewedFilt
     })
 }
 
+// How many sources the filter lists, and 0 where it has expired.
+fn size_of(stored: &StoredFilter, moment: Moment, lifetime_ms: u64) -> usize
+    requires { lifetime_ms ≤ 1000000000 }
+    ensures { result ≡ (if nat_lt moment (stored.now.renewed + lifetime_ms)
+        then length stored.now.filter.sources else 0) }
+{
+    if stored.is_fresh(moment, lifetime_ms) {
+        stored.filter.sources().len()
+    } else {
+        0
+    }
+}
+
 impl StoredMemberships {
     /// The filters of the endpoint's memberships, by group. It goes over the endpoint's memberships
     /// and no others.
@@ -43,6 +56,7 @@ impl StoredMemberships {
             (membership_in self.now (record { endpoint = endpoint.now; group = group })))) }
         ensures in_order { IfOk result (λ filters. (group : Address)
             → IsInOrder (get ip_order filters group)) }
+        ensures ascends { OnOk result (IsAscending membership_order self.now) }
     {
         let least = EndpointGroup {
             endpoint: *endpoint,
@@ -60,5 +74,16 @@ impl StoredMemberships {
             }
         }
         Ok(filters)
+    }
+
+    /// The size of the pair's membership at a moment, and 0 where it has none.
+    pub fn size_at(&self, at: &EndpointGroup, moment: Moment, lifetime_ms: u64) -> usize
+        requires { lifetime_ms ≤ 1000000000 }
+        ensures { result ≡ size_at (filter (is_fresh lifetime_ms moment) self.now) at.now }
+    {
+        match self.filters.get(at) {
+            Some(stored) => size_of(stored, moment, lifetime_ms),
+            None => 0,
+        }
     }
 }

@@ -21,9 +21,14 @@ impl Table {
         ensures stands { ForLog self.old (λ settings log. OnOk result (
             Holds settings self.new (log ++ Reported endpoint.now records.now at.now ∷ []))) }
         ensures same { OnErr result (self.new ≡ self.old) }
+        ensures force { self.new.in_force ≡ self.old.in_force }
     {
         let moment = self.moment.later(at);
-        let OwnAfter { memberships, gone } = self.own_after(alloc, endpoint, records, moment)?;
+        let OwnAfter {
+            memberships,
+            gone,
+            ..
+        } = self.own_after(alloc, endpoint, records, moment)?;
         self.rows.replace(alloc, memberships, &gone)?;
         self.moment = moment;
         self.rows.purge(moment, self.lifetime_ms);
@@ -36,6 +41,7 @@ impl Table {
         ensures stands { ForLog self.old (λ settings log.
             OnOk result (Holds settings self.new (log ++ change.now ∷ []))) }
         ensures same { OnErr result (self.new ≡ self.old) }
+        ensures force { self.new.in_force ≡ self.old.in_force }
     {
         match change {
             Change::Reported {

@@ -14,7 +14,7 @@ impl<O: OutLink + Drop, T> Server<O, T> {
     // Takes an event that isn't a packet, and answers what is to be sent. What the event enters in the log
     // is owed then. Where memory ran out nothing happened.
     pub(super) fn enter(&mut self, alloc: Global, event: &Event) -> Result<Sends, AllocError>
-        requires event { IsEvent event.now }
+        requires event { IsEvent (settings_in self.old) event.now }
         requires entered { is_packet event.now ≡ false }
         requires few { tally_in self.old < 2 ^ 50 }
         ensures sends { IfOk result (λ sends. sends

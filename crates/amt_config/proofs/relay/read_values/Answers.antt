@@ -1,6 +1,6 @@
 use Rattle.std.proofs.{Common.{◌≡◌, inl, subst}, lemmas.Result.{err_from_is_err_and}}
 use Rattle.amt_values.specs.{declared.address.Ip.TheVariants.{V4, V6}, Text.{IsIpText}}
-use Rattle.relay_machine.specs.declared.{number_key.NumberKey.TheVariants.{Robustness, QuerySeconds, ResponseTenths, Endpoints, Groups, Sources, PacketLimit}, settings.Settings.{Settings}}
+use Rattle.relay_machine.specs.declared.{number_key.NumberKey.TheVariants.{Robustness, QuerySeconds, ResponseTenths, Secrets, Endpoints, Groups, Sources, PacketLimit}, settings.Settings.{Settings}}
 use Rattle.amt_script.specs.declared.kind.Key.TheVariants as words
 use Rattle.amt_script.specs.Row.{key_word}
 use Rattle.toml.specs.View.{table_view}
@@ -45,6 +45,16 @@ returns-in_err-number_at-clause-fault c =
     c.in_ok-number_of-7.ensures.right (inl c.in_err-number_at.ensures.fault)))))))))))) in
     rw (handed.1, handed.2) first
 
+pub returns-in_err-number_of-8-clause-fault : goal.returns-in_err-number_of-8-clause-fault
+returns-in_err-number_of-8-clause-fault c =
+    let handed = err_from_is_err_and c.from_residual-in_err-number_of-8.result c.from_residual-in_err-number_of-8.ensures.1 in
+    let first : MayFailFirst relay_keys (table_view c.args.table.now) ⊥ c.in_err-number_of-8.field-0.0 =
+    past c.in_ok-relay.ensures.right (past c.in_ok-listen.ensures.right (past c.in_ok-feed.ensures.right (past c.in_ok-value_or.ensures.right (past
+    c.in_ok-value_or-2.ensures.right (past c.in_ok-number_of.ensures.right (past c.in_ok-number_of-2.ensures.right (past c.in_ok-number_of-3.ensures.right
+    (past c.in_ok-number_of-4.ensures.right (past c.in_ok-number_of-5.ensures.right (past c.in_ok-number_of-6.ensures.right (past
+    c.in_ok-number_of-7.ensures.right (past c.in_ok-number_at.ensures.right (inl c.in_err-number_of-8.ensures.fault))))))))))))) in
+    rw (handed.1, handed.2) first
+
 pub returns-in_err-number_at-2-clause-fault : goal.returns-in_err-number_at-2-clause-fault
 returns-in_err-number_at-2-clause-fault c =
     let handed = err_from_is_err_and c.from_residual-in_err-number_at-2.result c.from_residual-in_err-number_at-2.ensures.1 in
@@ -52,7 +62,8 @@ returns-in_err-number_at-2-clause-fault c =
     past c.in_ok-relay.ensures.right (past c.in_ok-listen.ensures.right (past c.in_ok-feed.ensures.right (past c.in_ok-value_or.ensures.right (past
     c.in_ok-value_or-2.ensures.right (past c.in_ok-number_of.ensures.right (past c.in_ok-number_of-2.ensures.right (past c.in_ok-number_of-3.ensures.right
     (past c.in_ok-number_of-4.ensures.right (past c.in_ok-number_of-5.ensures.right (past c.in_ok-number_of-6.ensures.right (past
-    c.in_ok-number_of-7.ensures.right (past c.in_ok-number_at.ensures.right (inl c.in_err-number_at-2.ensures.fault))))))))))))) in
+    c.in_ok-number_of-7.ensures.right (past c.in_ok-number_at.ensures.right (past c.in_ok-number_of-8.ensures.right (inl
+    c.in_err-number_at-2.ensures.fault)))))))))))))) in
     rw (handed.1, handed.2) first
 
 pub returns-clause-found : goal.returns-clause-found
@@ -72,6 +83,7 @@ returns-clause-found c =
         | Robustness ↦ c.in_ok-number_of.ensures.found
         | QuerySeconds ↦ c.in_ok-number_of-2.ensures.found
         | ResponseTenths ↦ c.in_ok-number_of-3.ensures.found
+        | Secrets ↦ c.in_ok-number_of-8.ensures.found
         | Endpoints ↦ c.in_ok-number_of-4.ensures.found
         | Groups ↦ c.in_ok-number_of-5.ensures.found
         | Sources ↦ c.in_ok-number_of-6.ensures.found

@@ -4,7 +4,7 @@ use Rattle.amt_script.proofs.Failures.{bad_octets}
 use Rattle.amt_script.proofs.statement.read_packet.Goals as goal
 
 pub returns-in-Ok-clause-sized : goal.returns-in-Ok-clause-sized
-returns-in-Ok-clause-sized c = hex_sized c.in-Ok.bytes c.in-Some.octets.now c.in-Ok.ensures.found
+returns-in-Ok-clause-sized c = λ settings. hex_sized c.in-Ok.bytes c.in-Some.octets.now c.in-Ok.ensures.found
 
 pub returns-in-Err-NotHex-clause-reason : goal.returns-in-Err-NotHex-clause-reason
 returns-in-Err-NotHex-clause-reason c =

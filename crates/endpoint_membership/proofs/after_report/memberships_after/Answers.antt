@@ -1,8 +1,8 @@
-use Rattle.std.{proofs.Common.{◌≡◌, ℕ, List, Result, Ok, Err, IfOk, OnOk, sym, ap, subst, ◌∙◌}, specs.{BTreeMap.{BTreeMap, IsOrdered, get}, List.{filter_map}}}
+use Rattle.std.{proofs.{Common.{◌≡◌, ℕ, List, Result, Ok, Err, IfOk, OnOk, sym, ap, subst, ◌∙◌, filter}, lemmas.Result.{IfOk-weaker}}, specs.{BTreeMap.{BTreeMap, IsOrdered, get}, List.{filter_map}, declared.cmp.Ordering.{Ordering}}}
 use Rattle.amt_values.specs.{declared.address.Ip.{Ip}, Order.{ip_order}, EndpointValue.{EndpointValue}, Ascending.{IsAscending}}
-use Rattle.source_filter.specs.declared.record.Record.{Record}
-use Rattle.endpoint_membership.specs.{declared.after_report.{OwnAfter.{OwnAfter}, RenewedFilter.{RenewedFilter}}, EndpointMemberships.{AreGone, AreOf, AreOwn, gone_of_entry, membership_of_entry, membership_of_renewed, renewed_filter_after_all, renewed_filter_of}}
-use Rattle.endpoint_membership.{specs.{Log.{on_group}, Membership.{Membership, is_fresh, membership_order}, Memberships.{membership_in}, Stored.{only}}, proofs.{FilterMap.{AreGone-filters, AreOf-filters, IsAscending-filters, membership_in-filters}}}
+use Rattle.source_filter.{specs.declared.record.Record.{Record}, proofs.Compared.{compared}}
+use Rattle.endpoint_membership.specs.{declared.after_report.{OwnAfter.{OwnAfter}, RenewedFilter.{RenewedFilter}}, EndpointMemberships.{AreGone, AreOf, AreOwn, gone_of_entry, membership_of_entry, membership_of_renewed, renewed_filter_after_all, renewed_filter_of}, Log.{on_group}, Membership.{Membership, is_fresh, membership_order}, Memberships.{membership_in}, Stored.{only}, Limits.{group_count}}
+use Rattle.endpoint_membership.proofs.FilterMap.{AreGone-filters, AreOf-filters, IsAscending-filters, membership_in-filters, length-filters}
 use Rattle.endpoint_membership.proofs.after_report.memberships_after.Goals as goal
 
 own_by : {E : Type 0} (lifetime moment : ℕ) (endpoint : EndpointValue) (records : List Record) (rows : List Membership) (filters : BTreeMap Ip RenewedFilter) (answer : Result OwnAfter E)
@@ -43,3 +43,11 @@ pub returns-clause-gone : goal.returns-clause-gone
 returns-clause-gone c =
     gone_by c.args.lifetime_ms c.args.moment c.args.endpoint.now c.args.records.now c.args.rows.now c.apply_records.new.filters c.memberships_of_filters.result (filters_are c)
     c.memberships_of_filters.ensures.rows c.memberships_of_filters.ensures.gone c.memberships_of_filters.ensures.ordered
+
+pub returns-clause-before : goal.returns-clause-before
+returns-clause-before c =
+    IfOk-weaker c.memberships_of_filters.result (λ after. after.before ≡ c.len-before.result)
+    (λ after. after.before ≡ group_count c.args.endpoint.now (filter (is_fresh c.args.lifetime_ms c.args.moment) c.args.rows.now)) (λ after is.
+    is ∙ c.len-before.ensures.len ∙ length-filters c.args.lifetime_ms c.args.moment c.args.endpoint.now c.args.rows.now c.in_ok-filters.filters c.in_ok-filters.ensures.ascends
+    (subst (λ (order : Ip → Ip → Ordering). IsOrdered order c.in_ok-filters.filters) compared c.len-before.ensures.ordered) c.in_ok-filters.ensures.own)
+    c.memberships_of_filters.ensures.before

@@ -4,7 +4,7 @@ use Rattle.pair_script.proofs.{Orders.{packet_judged}, SharedLines.{is_shared}}
 use Rattle.pair_script.proofs.item_line.read_packet_line.Goals as goal
 
 pub shared_item-requires : goal.shared_item-requires
-shared_item-requires c = is_shared c.in-Ok.item kinds.Packet (fields c.args.values.now) (λ same. cc same) c.in-Ok.ensures.found
+shared_item-requires c = is_shared c.in-Ok.item kinds.Packet (fields c.args.values.now) (λ same. cc same) (λ same. cc same) c.in-Ok.ensures.found
 
 pub returns-in-Err-clause-reason : goal.returns-in-Err-clause-reason
 returns-in-Err-clause-reason c = packet_judged (fields c.args.values.now) c.in-Err.error c.in-Err.ensures.reason

@@ -9,7 +9,7 @@ loop-before-preserved c =
     let octets = c.in_ok-bytes.ensures ∙ c.packet_to-packet.ensures in
     record {
       packets = pushed packet_at _ _ _ c.loop-before.before _ c.loop-before.invariant.packets (ap (λ (bytes : List ℕ). Packet bytes) octets) c.in_ok-push.ensures.ok;
-      sized = pushed_sized _ _ _ _ c.loop-before.invariant.sized (packet_size _ _ octets) c.in_ok-push.ensures.ok;
+      sized = λ settings. pushed_sized settings _ _ _ _ (c.loop-before.invariant.sized settings) (packet_size _ _ octets) c.in_ok-push.ensures.ok;
     }
 
 pub returns-clause-packets : goal.returns-clause-packets

@@ -4,7 +4,7 @@ use Rattle.relay_load.proofs.updates.append_updates.Goals as goal
 
 pub loop-before-init : goal.loop-before-init
 unfolding number_after
-loop-before-init c = record { number = c.from.ensures; updates = sym (append-nil c.args.items.now); sized = λ start. start }
+loop-before-init c = record { number = c.from.ensures; updates = sym (append-nil c.args.items.now); sized = λ settings start. start }
 
 pub loop-before-preserved : goal.loop-before-preserved
 loop-before-preserved c =
@@ -19,5 +19,5 @@ loop-before-preserved c =
     record {
       number = choice.number ∙ (ap (λ (n : ℕ). number_after n 4) c.loop-before.invariant.number ∙ sym (four_more seed before));
       updates = pushed (update_at seed) _ _ _ before _ c.loop-before.invariant.updates update c.in_ok-push.ensures.ok;
-      sized = pushed_sized _ _ _ _ c.loop-before.invariant.sized c.in_ok-event.ensures.sized c.in_ok-push.ensures.ok;
+      sized = λ settings. pushed_sized settings _ _ _ _ (c.loop-before.invariant.sized settings) (c.in_ok-event.ensures.sized settings) c.in_ok-push.ensures.ok;
     }

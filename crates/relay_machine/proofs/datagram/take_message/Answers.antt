@@ -1,6 +1,8 @@
-use Rattle.std.proofs.Common.{◌≡◌, refl, sym}
-use Rattle.response_mac.specs.ResponseMac.{is_good}
-use Rattle.relay_machine.{specs.{declared.outcome.Outcome.TheVariants.{WrongKind}, EventAnswer.{quiet}, Settings.{table_settings_of}}, proofs.Answering.{answered-unchanged}}
+use Rattle.std.{proofs.Common.{◌≡◌, ℕ, List, Some, refl, subst, sym}, specs.Result.{IfOk}}
+use Rattle.amt_messages.specs.declared.message.Message.{Message, TheVariants.{Query}}
+use Rattle.response_mac.specs.ResponseMac.{is_good, mac_of}
+use Rattle.endpoint_membership.specs.Table.{in_force_of}
+use Rattle.relay_machine.{specs.{declared.outcome.Outcome.TheVariants.{Queried, WrongKind}, EventAnswer.{is_limited, quiet, replied}, Logs.{IsAnswered}, Settings.{table_settings_of}}, proofs.{Answering.{answered-unchanged}, QuerySizes.{general_query-limits}}}
 use Rattle.relay_machine.proofs.datagram.take_message.Goals as goal
 
 pub returns-in-Discovery-clause-answers : goal.returns-in-Discovery-clause-answers
@@ -18,7 +20,14 @@ returns-in-Teardown-clause-answers c log holds =
     rw (c.in-Teardown.is, good) (c.take_teardown.ensures.answers (table_settings_of c.args.setup.now.settings) log holds)
 
 pub returns-in-Request-clause-answers : goal.returns-in-Request-clause-answers
-returns-in-Request-clause-answers c log holds = rw c.in-Request.is (c.take_request.ensures.answers log holds)
+returns-in-Request-clause-answers c log holds =
+    let settings = c.args.setup.now.settings in
+    let terms = table_settings_of settings in
+    let table = c.args.table.now in
+    let limited = is_limited (in_force_of terms table) log in
+    let query : List ℕ → Message = λ inner. Query limited (mac_of c.args.secrets.now.current c.args.source c.in-Request.nonce) c.in-Request.nonce inner (Some c.args.source) in
+    let answered : List ℕ → Type 0 = λ inner. IfOk c.take_request.result (IsAnswered terms table table log (replied (Queried c.in-Request.v6 limited) c.args.source (query inner))) in
+    rw c.in-Request.is (subst answered (general_query-limits settings table.in_force c.in-Request.v6) (c.take_request.ensures.answers log holds))
 
 pub returns-in-Multicast-clause-answers : goal.returns-in-Multicast-clause-answers
 returns-in-Multicast-clause-answers c log holds =

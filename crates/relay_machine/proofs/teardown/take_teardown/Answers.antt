@@ -6,7 +6,7 @@ pub returns-then-clear-clause-answers : goal.returns-then-clear-clause-answers
 returns-then-clear-clause-answers c terms log holds =
     let good : c.args.good ≡ true = cc in
     rw good (answered-torn terms _ _ log c.args.named _ _ _ (c.now-at.ensures.latest terms log holds) c.if-clear.true (c.clear.ensures.live terms log holds) (c.clear.ensures.stands terms log holds)
-    c.entered.ensures.outcome c.entered.ensures.sends c.entered.ensures.change)
+    c.clear.ensures.force c.entered.ensures.outcome c.entered.ensures.sends c.entered.ensures.change)
 
 pub returns-clause-answers : goal.returns-clause-answers
 returns-clause-answers c terms log holds =

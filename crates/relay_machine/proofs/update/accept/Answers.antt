@@ -6,7 +6,7 @@ use Rattle.relay_machine.proofs.update.accept.Goals as goal
 pub returns-in-Ok-clause-answers : goal.returns-in-Ok-clause-answers
 returns-in-Ok-clause-answers c terms log holds =
     answered-accepted terms _ _ log c.args.source c.args.records _ _ (c.now-at.ensures.latest terms log holds) (c.in-Ok.ensures.passes terms log holds) (c.in-Ok.ensures.stands terms log holds)
-    c.entered.ensures.outcome c.entered.ensures.sends c.entered.ensures.change
+    c.in-Ok.ensures.force c.entered.ensures.outcome c.entered.ensures.sends c.entered.ensures.change
 
 pub returns-in-Err-Limit-clause-answers : goal.returns-in-Err-Limit-clause-answers
 returns-in-Err-Limit-clause-answers c terms log holds =

@@ -1,6 +1,6 @@
 use Rattle.std.proofs.{Common.{◌≡◌, ◌∙◌, List, Option, Ok, true, sym, ap, arith}, lemmas.Result.{IfOk-weaker}}
 use Rattle.source_filter.specs.declared.record.Record.{Record}
-use Rattle.endpoint_membership.specs.{Log.{latest}, Table.{limit_passed}, declared.limits.LimitFault.{LimitFault}}
+use Rattle.endpoint_membership.specs.{Log.{latest}, Table.{in_force_of, limit_passed}, declared.limits.LimitFault.{LimitFault}}
 use Rattle.relay_machine.{specs.Updates.{report_in}, proofs.{Answering.{answered-read}, Reports.{item_count-forwardable}}}
 use Rattle.relay_machine.proofs.update.take_update.Goals as goal
 
@@ -13,7 +13,7 @@ pub returns-clause-answers : goal.returns-clause-answers
 returns-clause-answers c terms log holds =
     let good : c.args.good ≡ true = cc in
     let read : report_in c.args.inner.now ≡ Ok c.in-Ok.records = ap report_in (sym c.as_slice.ensures) ∙ c.in-Ok.ensures.value in
-    let passed : List Record → Option LimitFault = λ records. limit_passed terms log c.args.source records (latest log) in
+    let passed : List Record → Option LimitFault = λ records. limit_passed (in_force_of terms c.args.table.now) log c.args.source records (latest log) in
     rw good (IfOk-weaker c.accept.result _ _
     (λ step answered. answered-read terms _ _ log (report_in c.args.inner.now) c.in-Ok.records c.forwardable_records.result passed c.args.source (latest log) step read c.forwardable_records.ensures answered)
     (c.accept.ensures.answers terms log holds))

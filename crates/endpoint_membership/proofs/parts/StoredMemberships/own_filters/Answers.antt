@@ -1,6 +1,6 @@
 use Rattle.std.{proofs.Common.{◌≡◌, true, false, cond, filter, List, map, ◌++◌, None, Option, Some, sym, ap, subst, ◌∙◌}, specs.{BTreeMap.{get}, Map.Iter.{deref}}}
 use Rattle.amt_values.specs.{Order.{ip_order}, Ascending.{IsAscending, has}}
-use Rattle.endpoint_membership.{specs.{Effective.{IsInOrder}, EndpointGroup.{EndpointGroup, endpoint_group_order, same_endpoint, same_group}, EndpointMemberships.{renewed_filter_of}, Membership.{Membership, endpoint_group_of, is_fresh}, Stored.{only}, declared.after_report.RenewedFilter.{RenewedFilter}}, proofs.EnoughRecords.{in_order_set}}
+use Rattle.endpoint_membership.{specs.{Effective.{IsInOrder}, EndpointGroup.{EndpointGroup, endpoint_group_order, same_endpoint, same_group}, EndpointMemberships.{renewed_filter_of}, Membership.{Membership, endpoint_group_of, is_fresh, membership_order}, Stored.{only}, declared.after_report.RenewedFilter.{RenewedFilter}}, proofs.EnoughRecords.{in_order_set}}
 use Rattle.endpoint_membership.proofs.{OwnFilters.{filter_of-stored, none_past, same_endpoint-ne, seen_filter-all, seen_filter-more, seen_filter-none, walked, within}, PairsWalked.{stored_at}, PartOrders.{pairs_compared}, MembershipIn.{IsAscending-pairs}, parts.StoredMemberships.own_filters.Goals.{in-None, in-Some+then-ne}}
 use Rattle.endpoint_membership.proofs.parts.StoredMemberships.own_filters.Goals as goal
 
@@ -59,3 +59,6 @@ returns-clause-own c group =
           ∙ none_past endpoint group (map endpoint_group_of rows) (map deref seen) w.in-Some.at.now c.next.new.self (IsAscending-pairs rows c.self.invariant.ascends) (walk ∙ ap (λ (rest : List EndpointGroup). map deref seen ++ rest) w.in-Some.ensures.steps)
           (ap (λ (one : EndpointGroup). same_endpoint one.endpoint endpoint) (sym w.at.view_is) ∙ same_endpoint-ne w.at.inside.endpoint endpoint w.ne.result true w.ne.ensures w.if-ne.true)
     ])
+
+pub returns-clause-ascends : goal.returns-clause-ascends
+returns-clause-ascends c = subst (IsAscending membership_order) c.self.view_is c.self.invariant.ascends

@@ -7,6 +7,7 @@ pub invariant_of-self-2 : goal.invariant_of-self-2
 invariant_of-self-2 c = (
   c.self.invariant.0,
   subst (IsAscending membership_order) (sym c.purge.ensures) (IsAscending-filter membership_order (is_fresh c.self.inside.lifetime_ms c.later-moment.result) c.replace.new.self c.in_ok-replace.ensures.ascends),
+  c.self.invariant.2,
 )
 
 pub returns-clause-stands : goal.returns-clause-stands

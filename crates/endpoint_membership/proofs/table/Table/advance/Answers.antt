@@ -8,6 +8,7 @@ invariant_of-self c = (
   c.self.invariant.0,
   subst (IsAscending membership_order) (sym c.purge.ensures)
       (IsAscending-filter membership_order (is_fresh c.self.inside.lifetime_ms c.later-self-inside.result) c.self.inside.rows c.self.invariant.1),
+  c.self.invariant.2,
 )
 
 pub returns-clause-stands : goal.returns-clause-stands

@@ -7,7 +7,7 @@ pub invariant_of-self : goal.invariant_of-self
 invariant_of-self c =
     let fresh = subst (IsAscending membership_order) (sym c.purge.ensures)
     (IsAscending-filter membership_order (is_fresh c.self.inside.lifetime_ms c.later-self-inside.result) c.self.inside.rows c.self.invariant.1) in
-    (c.self.invariant.0, subst (IsAscending membership_order) (sym c.drop_endpoint.ensures) (IsAscending-filter membership_order (is_of_another c.args.endpoint.now) c.purge.new.self fresh))
+    (c.self.invariant.0, subst (IsAscending membership_order) (sym c.drop_endpoint.ensures) (IsAscending-filter membership_order (is_of_another c.args.endpoint.now) c.purge.new.self fresh), c.self.invariant.2)
 
 pub returns-clause-live : goal.returns-clause-live
 returns-clause-live c settings log holds =

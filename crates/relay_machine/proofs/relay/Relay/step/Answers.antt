@@ -1,8 +1,8 @@
 use Rattle.std.proofs.{Common.{◌≡◌, ◌≤◌, ℕ, max, ◌++◌, ◌∷◌, [], Option, refl, sym, subst, ap, ◌∙◌}, Math.Logic.{∥∥₁_map}, lemmas.Result.{IfOk-weaker}}
 use Rattle.amt_values.specs.Octets.{AreOctets}
-use Rattle.endpoint_membership.specs.{Table.{Holds}, Targets.{TargetsValue}, declared.change.Change.{Change}}
-use Rattle.relay_machine.specs.{declared.event.Event.TheVariants.{Datagram, Packet}, Accepted.{accepted_log, with_change}, Answers.{settings_of}, Packets.{IsToCopy}, Settings.{table_settings_of}}
-use Rattle.relay_machine.proofs.{Acceptance.{torn-answered, torn_only-answered, updated-answered, updated_only-answered}, Copies.{AreCopies-answered}, Onward.{HasLog-answered, IsWithin-events, RelayAt-moment, RelayAt-payload, RelayAt-rotate, StandsFor-accepted, answered-after, same_relay}}
+use Rattle.endpoint_membership.specs.{Limits.{AreWithin}, Table.{Holds, IsWithinLimits, TableValue}, Targets.{TargetsValue}, declared.{change.Change.{Change}, limits.Limits.{Limits}}}
+use Rattle.relay_machine.specs.{declared.{event.Event.{Event, TheVariants.{Datagram, Packet, Limits as Lowered}}, settings.Settings.{Settings}}, Accepted.{accepted_log, with_change}, Answers.{settings_of}, EventSize.{IsEvent}, Packets.{IsToCopy}, Settings.{table_settings_of}}
+use Rattle.relay_machine.proofs.{Acceptance.{torn-answered, torn_only-answered, updated-answered, updated_only-answered}, Copies.{AreCopies-answered}, Onward.{HasLog-answered, IsWithin-events, AreWithin-table, Holds-in_force, RelayAt-limits, RelayAt-moment, RelayAt-payload, RelayAt-rotate, StandsFor-accepted, answered-after, same_relay}}
 use Rattle.relay_machine.proofs.relay.Relay.step.Goals as goal
 
 pub invariant_of-self : goal.invariant_of-self
@@ -32,7 +32,7 @@ invariant_of-self-in-Packet c = record {
 pub returns-in-Moment-clause-next : goal.returns-in-Moment-clause-next
 returns-in-Moment-clause-next c settings first events at =
     rw c.in-Moment.is (RelayAt-moment _ _ settings first events _ _ at refl refl
-    (c.later-at.ensures ∙ ap (λ (moment : ℕ). max moment c.in-Moment.moment) c.now.ensures.value) c.advance.ensures.stands)
+    (c.later-at.ensures ∙ ap (λ (moment : ℕ). max moment c.in-Moment.moment) c.now.ensures.value) c.advance.ensures.force c.advance.ensures.stands)
 
 pub returns-in-Moment-clause-within : goal.returns-in-Moment-clause-within
 returns-in-Moment-clause-within c settings first events at =
@@ -62,7 +62,7 @@ returns-in-Datagram-clause-change c settings first events at =
 pub returns-in-Datagram-clause-next : goal.returns-in-Datagram-clause-next
 returns-in-Datagram-clause-next c settings first events at =
     rw c.in-Datagram.is (IfOk-weaker c.take_datagram.result _ _
-    (λ step is. RelayAt-payload c.args.self.now _ settings first events (Datagram c.in-Datagram.bytes c.in-Datagram.from) at tt refl refl is.stands)
+    (λ step is. RelayAt-payload c.args.self.now _ settings first events (Datagram c.in-Datagram.bytes c.in-Datagram.from) at tt refl refl is.force is.stands)
     (answered-after c.args.self.now _ settings first events (Datagram c.in-Datagram.bytes c.in-Datagram.from) c.take_datagram.result at c.take_datagram.ensures.answers))
 
 pub returns-in-Datagram-clause-within : goal.returns-in-Datagram-clause-within
@@ -117,7 +117,7 @@ returns-in-Packet-clause-change c settings first events at =
 pub returns-in-Packet-clause-next : goal.returns-in-Packet-clause-next
 returns-in-Packet-clause-next c settings first events at =
     rw c.in-Packet.is (IfOk-weaker c.take_packet.result _ _
-    (λ step is. RelayAt-payload c.args.self.now _ settings first events (Packet c.in-Packet.bytes) at tt refl refl is.stands)
+    (λ step is. RelayAt-payload c.args.self.now _ settings first events (Packet c.in-Packet.bytes) at tt refl refl is.force is.stands)
     (answered-after c.args.self.now _ settings first events (Packet c.in-Packet.bytes) c.take_packet.result at c.take_packet.ensures.answers))
 
 pub returns-in-Packet-clause-within : goal.returns-in-Packet-clause-within
@@ -157,3 +157,31 @@ returns-in-Rotate-clause-next c settings first events at =
 pub returns-in-Rotate-clause-within : goal.returns-in-Rotate-clause-within
 returns-in-Rotate-clause-within c settings first events at =
     IsWithin-events _ settings first (events ++ c.args.event.now ∷ []) (returns-in-Rotate-clause-next c settings first events at)
+
+allowed : (settings : Settings) (event : Event) (limits : Limits) → event ≡ Lowered limits → IsEvent settings event → AreWithin settings.limits limits
+allowed settings event limits is takes = subst (λ (one : Event). IsEvent settings one) is takes
+
+pub set_limits-requires : goal.set_limits-requires
+set_limits-requires c = AreWithin-table c.args.self.now c.in-Limits.limits (allowed (settings_of c.args.self.now) c.args.event.now c.in-Limits.limits c.in-Limits.is c.requires)
+
+pub invariant_of-self-in-Limits : goal.invariant_of-self-in-Limits
+invariant_of-self-in-Limits c = record {
+  within = subst (λ (table : TableValue). IsWithinLimits table) (sym c.set_limits.ensures) c.args.self.now.within;
+  has_log = ∥∥₁_map c.args.self.now.has_log (λ found. (found.0, Holds-in_force _ _ _ _ found.0 c.set_limits.ensures found.1));
+  has_room = c.args.self.now.has_room;
+  no_targets = c.args.self.now.no_targets;
+}
+
+pub returns-in-Limits-clause-next : goal.returns-in-Limits-clause-next
+returns-in-Limits-clause-next c settings first events at =
+    rw c.in-Limits.is (RelayAt-limits _ _ settings first events _ at (allowed (settings_of c.args.self.now) c.args.event.now c.in-Limits.limits c.in-Limits.is c.requires) refl refl c.set_limits.ensures)
+
+pub returns-in-Limits-clause-within : goal.returns-in-Limits-clause-within
+returns-in-Limits-clause-within c settings first events at =
+    IsWithin-events _ settings first (events ++ c.args.event.now ∷ []) (returns-in-Limits-clause-next c settings first events at)
+
+pub returns-in-Limits-clause-published : goal.returns-in-Limits-clause-published
+returns-in-Limits-clause-published c log holds =
+    let terms = table_settings_of (settings_of c.args.self.now) in
+    subst (λ (change : Option Change). Holds terms c.set_limits.new.self (with_change log change)) (sym c.quiet-in-Limits.ensures.change)
+    (Holds-in_force terms _ _ _ log c.set_limits.ensures holds)

@@ -5,7 +5,7 @@ use Rattle.relay_machine.proofs.settings.Settings.are_in_range.Goals as goal
 pub returns : goal.returns
 returns c =
     let P : NumberKey → Type 0 = λ key. IsInKeyRange key (number_at c.args.self.now key) in
-    let whole : c.loop-key.key-index ≡ 7 = omega (arith, c.loop-key.auto.key-index-end, c.loop-key-test.false) in
+    let whole : c.loop-key.key-index ≡ 8 = omega (arith, c.loop-key.auto.key-index-end, c.loop-key-test.false) in
     (λ _. All-keys P (subst (λ (i : ℕ). All P (take i NUMBER_KEYS)) whole c.loop-key.invariant), λ _. refl)
 
 pub loop-key-preserved : goal.loop-key-preserved
