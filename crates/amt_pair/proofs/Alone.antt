@@ -1,77 +1,42 @@
--- Lists in which one item alone passes a test, and what splits of a list say of each of its items.
-use Rattle.std.{proofs.Common.{◌≡◌, Bool, true, false, List, [], ◌∷◌, ◌++◌, map, if◌then◌else◌, filter, refl, ap, ◌∙◌, append_assoc}, specs.List.{AllByRecursion}}
-
--- false where it isn't true
-pub is_false : (answer : Bool) → (answer ≡ true → ⊥) → answer ≡ false
-is_false true not_true = absurd (not_true refl)
-is_false false not_true = refl
-
--- what holds wherever the list is split holds of each item
-pub all_by_splits : {X : Type 0} (Fact : X → Type 0) (xs : List X) → ((before after : List X) (x : X) → xs ≡ before ++ x ∷ after → Fact x) → AllByRecursion Fact xs
-all_by_splits Fact [] each = tt
-all_by_splits {X} Fact (x ∷ xs) each =
-    (each [] xs x refl, all_by_splits Fact xs (λ before after y is. each (x ∷ before) after y (ap (λ (rest : List X). x ∷ rest) is)))
-
--- what holds of each item holds of one in the middle
-pub all_at : {X : Type 0} (Fact : X → Type 0) (before : List X) (x : X) (after : List X) → AllByRecursion Fact (before ++ x ∷ after) → Fact x
-all_at Fact [] x after all = all.0
-all_at Fact (y ∷ before) x after all = all_at Fact before x after all.1
-
--- and of each item of a list with one more
-pub all_more : {X : Type 0} (Fact : X → Type 0) (xs : List X) (x : X) → AllByRecursion Fact xs → Fact x → AllByRecursion Fact (xs ++ x ∷ [])
-all_more Fact [] x all here = (here, tt)
-all_more Fact (y ∷ xs) x all here = (all.0, all_more Fact xs x all.1 here)
-
--- no item passes
-abbrev pub NonePasses : {X : Type 0} → (X → Bool) → List X → Type 0
-NonePasses test xs = AllByRecursion (λ x. test x ≡ false) xs
+-- Lists in which one item alone passes a test, or none, or each.
+use Rattle.std.proofs.{Common.{◌≡◌, ℕ, zero, suc, ◌<◌, Bool, true, false, List, [], ◌∷◌, map, length, get_or, set, filter, All, AllPairs, if◌then◌else◌, refl, ap, ◌∙◌, arith}, lemmas.{Bool.{cond-false, false_from_ne_true}, List.Folds.{map_fixed}}}
 
 module _ {X : Type 0} (test : X → Bool) where
-  pub filter_none : (xs : List X) → NonePasses test xs → filter test xs ≡ []
-  filter_none [] none = refl
-  filter_none (x ∷ xs) none = rw (none.0) (filter_none xs none.1)
-
-  pub filter_one : (before : List X) (one : X) (after : List X) → NonePasses test before → test one ≡ true → NonePasses test after
-      → filter test (before ++ one ∷ after) ≡ one ∷ []
-  filter_one [] one after none passes rest = rw passes (ap (λ (xs : List X). one ∷ xs) (filter_none after rest))
-  filter_one (x ∷ before) one after none passes rest = rw (none.0) (filter_one before one after none.1 passes rest)
-
-  module _ (change : X → X) where
-    abbrev pub changed : X → X
-    changed x = if test x then change x else x
-
-    pub map_none : (xs : List X) → NonePasses test xs → map changed xs ≡ xs
-    map_none [] none = refl
-    map_none (x ∷ xs) none = rw (none.0) (ap (λ (rest : List X). x ∷ rest) (map_none xs none.1))
-
-    pub map_one : (before : List X) (one : X) (after : List X) → NonePasses test before → test one ≡ true → NonePasses test after
-        → map changed (before ++ one ∷ after) ≡ before ++ change one ∷ after
-    map_one [] one after none passes rest = rw passes (ap (λ (xs : List X). change one ∷ xs) (map_none after rest))
-    map_one (x ∷ before) one after none passes rest =
-        rw (none.0) (ap (λ (xs : List X). x ∷ xs) (map_one before one after none.1 passes rest))
+  -- no item passes
+  abbrev pub NonePasses : List X → Type 0
+  NonePasses xs = All (λ x. test x ≡ false) xs
 
   -- no two items pass
   abbrev pub PassesOnce : List X → Type 0
-  PassesOnce xs = (before between after : List X) (one other : X) → xs ≡ before ++ one ∷ (between ++ other ∷ after) → test one ≡ true → test other ≡ true → ⊥
+  PassesOnce xs = AllPairs (λ one other. test one ≡ true → test other ≡ true → ⊥) xs
 
-  -- where one does, none before and none after it do
-  alone : (xs before : List X) (one : X) (after : List X) → PassesOnce xs → xs ≡ before ++ one ∷ after → test one ≡ true → NonePasses test before × NonePasses test after
-  alone xs before one after once is passes = (
-    all_by_splits (λ x. test x ≡ false) before (λ left right x split. is_false (test x) (λ too. once left right after x one
-        (is ∙ ap (λ (first : List X). first ++ one ∷ after) split ∙ append_assoc left (x ∷ right) (one ∷ after)) too passes)),
-    all_by_splits (λ x. test x ≡ false) after (λ left right x split. is_false (test x) (λ too. once before left right one x
-        (is ∙ ap (λ (rest : List X). before ++ one ∷ rest) split) passes too)),
-  )
+  abbrev pub changed : (X → X) → X → X
+  changed change x = if test x then change x else x
 
-  -- that one is kept alone
-  pub filter_alone : (xs before : List X) (one : X) (after : List X) → PassesOnce xs → xs ≡ before ++ one ∷ after → test one ≡ true → filter test xs ≡ one ∷ []
-  filter_alone xs before one after once is passes =
-      let none = alone xs before one after once is passes in
-      ap (filter test) is ∙ filter_one before one after none.0 passes none.1
+  pub filter_none : (xs : List X) → NonePasses xs → filter test xs ≡ []
+  filter_none [] none = refl
+  filter_none (x ∷ xs) none = let first : test x ≡ false = none 0 x (omega arith) in rw first (filter_none xs (λ k d below. none (suc k) d (omega arith)))
 
-  -- and changed alone
-  pub map_alone : (change : X → X) (xs before : List X) (one : X) (after : List X) → PassesOnce xs → xs ≡ before ++ one ∷ after → test one ≡ true
-      → map (changed change) xs ≡ before ++ change one ∷ after
-  map_alone change xs before one after once is passes =
-      let none = alone xs before one after once is passes in
-      ap (map (changed change)) is ∙ map_one change before one after none.0 passes none.1
+  pub filter_every : (xs : List X) → All (λ x. test x ≡ true) xs → filter test xs ≡ xs
+  filter_every [] all = refl
+  filter_every (x ∷ xs) all =
+      let first : test x ≡ true = all 0 x (omega arith) in rw first (ap (λ (rest : List X). x ∷ rest) (filter_every xs (λ k d below. all (suc k) d (omega arith))))
+
+  pub map_none : (change : X → X) (xs : List X) → NonePasses xs → map (changed change) xs ≡ xs
+  map_none change xs none = map_fixed (changed change) xs (λ k d below. cond-false (test (get_or xs k d)) (change (get_or xs k d)) (get_or xs k d) (none k d below))
+
+  -- the item at the place alone is kept, and changed
+  pub record IsAlone (xs : List X) (place : ℕ) (x : X) : Type 0 where
+    pub kept : filter test xs ≡ x ∷ []
+    pub changes : (change : X → X) → map (changed change) xs ≡ set xs place (change x)
+
+  pub alone : (xs : List X) (place : ℕ) (x : X) → PassesOnce xs → place < length xs → get_or xs place x ≡ x → test x ≡ true → IsAlone xs place x
+  alone [] place x once within is passes = absurd (omega arith)
+  alone (first ∷ xs) zero x once within is passes =
+      let here : test first ≡ true = ap test is ∙ passes in
+      let none : NonePasses xs = λ k d below. false_from_ne_true _ (λ too. once 0 (suc k) d (omega arith) (omega arith) here too) in
+      record { kept = rw here (λ i. is i ∷ filter_none xs none i); changes = λ change. rw here (λ i. change (is i) ∷ map_none change xs none i) }
+  alone (first ∷ xs) (suc place) x once within is passes =
+      let other : test first ≡ false = false_from_ne_true _ (λ too. once 0 (suc place) x (omega arith) within too (ap test is ∙ passes)) in
+      let rest = alone xs place x (λ i j d low below. once (suc i) (suc j) d (omega arith) (omega arith)) (omega arith) is passes in
+      record { kept = rw other rest.kept; changes = λ change. rw other (ap (λ (more : List X). first ∷ more) (rest.changes change)) }

@@ -1,16 +1,16 @@
 -- Each event of a schedule leaves what a course shows of a gateway in order.
-use Rattle.std.proofs.{Common.{◌≡◌, ℕ, ◌+◌, ◌≤◌, max, Bool, true, List, [], ◌∷◌, ◌++◌, map, All, Contains, Option, Some, None, is_some, refl, sym, ap, subst, ◌∙◌, arith, append_assoc, append-nil, inl, inr}, lemmas.List.Elements.{All-contains, All-head, All-nil, All-tail}}
+use Rattle.std.proofs.{Common.{◌≡◌, ℕ, ◌+◌, ◌≤◌, max, Bool, true, List, [], ◌∷◌, ◌++◌, filter, map, All, Contains, Option, Some, None, is_some, refl, sym, ap, subst, ◌∙◌, arith, append_assoc, append-nil}, lemmas.List.{get_or-map, length-map, Elements.{All-contains, All-head, All-nil, All-tail, Contains-get_or}, Sorted.{Contains-permutation, IsPermutation-reverse}}}
 use Rattle.amt_values.specs.{Endpoint.{endpoint_of}, EndpointValue.{EndpointValue}}
 use Rattle.endpoint_membership.specs.{Log.{brought, latest}, declared.change.Change.{Change, TheVariants.{Mark}}}
 use Rattle.socket_merge.proofs.Amounts.{same_name-exact}
 use Rattle.gateway_machine.specs.{Answers.{call_in}, declared.{event.GatewayEvent.{GatewayEvent, TheVariants.{Moment as Passes, Datagram as Heard}}, settings.GatewaySettings.{GatewaySettings}}}
 use Rattle.relay_machine.specs.{Accepted.{accepted_log, entry_of}, Answers.{sends_of}, Events.{moment_in, now_of}, Packets.{head_to_copy, targets_at}, Settings.{membership_interval_ms, table_settings_of}, declared.{event.Event.{Event, TheVariants.{Moment, Packet, Rotate}}, sends.OneSend.{OneSend}}}
-use Rattle.amt_pair.specs.{Agreement.{IsInTime, report_from}, Events.{MayHappen}, Setup.{Host, IsHost, IsLawfulSetup, PairSetup, first_nonce, relay_peer}}
-use Rattle.amt_pair.specs.Schedule.{Course, IsPairEvent, Member, Upward, course_of, delivery_down, delivery_up, down_delivered, has_name, is_at, numbered, up_delivered, with_member_event, with_pair_event, with_relay_event}
+use Rattle.amt_pair.specs.{Agreement.{IsInTime, report_from}, Events.{MayHappen}, Setup.{AreApart, Host, IsHost, IsLawfulSetup, PairSetup, first_nonce, relay_peer}}
+use Rattle.amt_pair.specs.Schedule.{Course, IsPairEvent, Member, Upward, course_of, delivery_down, delivery_up, down_delivered, has_name, is_at, numbered, start, up_delivered, with_member_event, with_pair_event, with_relay_event}
 use Rattle.amt_pair.specs.{Sent.{SentReport}, declared.event.PairEvent.{PairEvent, TheVariants.{Down, Moment as MomentForAll, Packet as PacketComes, Rotate as SecretComes, Socket, Up}}}
-use Rattle.amt_pair.proofs.{Courses.{changes_of, course_hosts, course_of-more, course_of-none, later_by, logged-after, now_of-nil, now_of-push}, DownDatagrams.{IsDown, states-down}, GatewaySteps.{States, moment_passed, run-start}, MembersAt.{host_at}}
+use Rattle.amt_pair.proofs.{Alone.{alone}, Courses.{changes_of, course_hosts, course_of-more, course_of-none, later_by, logged-after, now_of-nil, now_of-push, start_hosts}, DownDatagrams.{IsDown, states-down}, GatewaySteps.{States, moment_passed, run-start}, MembersAt.{host_at}}
 use Rattle.amt_pair.proofs.Follows.{Stands, latest-made, made_for, member_of, report_by, stands-gateways, stands-relay}
-use Rattle.amt_pair.proofs.{Hosts.{one-name, placed-start}, Listed.{All-from_contains, Contains-filter_map, Contains-later, Contains-reverse, first-is, none-in, numbered-among}, PeerReports.{reports_from}, RelayEntries.{delivery-entry}, RelaySteps.{down-delivery, down-packet, none-down, packet-entry}}
+use Rattle.amt_pair.proofs.{HostsApart.{one-name, once_by_peer}, HeardQueries.{same_peer-itself}, Listed.{Contains-filter_map, numbered-among}, PeerReports.{has_peer, reports_from}, RelayEntries.{delivery-entry}, RelaySteps.{down-delivery, down-packet, none-down, packet-entry}}
 use Rattle.amt_pair.proofs.{TunnelEntries.{IsMade, IsPrompt, changes_made}, TunnelReports.{IsForwarded, IsReport}, Upwards.{IsHosted, IsUpward}}
 
 -- ---- a socket call
@@ -31,11 +31,7 @@ prompt-by (Some report) now at early prompt = omega arith
 -- ---- the gateways of a course
 
 contains-host : (members : List Member) (member : Member) → Contains members member → Contains (map host_at members) member.host
-contains-host [] member among = absurd (none-in member among)
-contains-host (first ∷ more) member among = elim (first-is first member more among) [
-  | inl is ↦ (0, omega arith, ap host_at is)
-  | inr later ↦ Contains-later first.host member.host (map host_at more) (contains-host more member later)
-]
+contains-host members member (k, below, is) = (k, omega (arith, length-map members host_at), get_or-map host_at members k member member.host below ∙ ap host_at is)
 
 -- each is one of the setup
 pub listed : (setup : PairSetup) (schedule : List PairEvent) (member : Member) → Contains (course_of setup schedule).members member → Contains setup.hosts member.host
@@ -100,7 +96,7 @@ module _ (setup : PairSetup) (lawful : IsLawfulSetup setup) (host : Host) (among
         let lifetime = membership_interval_ms setup.settings in
         let known : (report : SentReport) → report_from host.peer upward ≡ Some report → Contains reports report × All IsForwarded report.records =
         λ report is.
-        let listed = Contains-reverse _ report (Contains-filter_map (report_from host.peer) course.up upward report (sent upward refl) is) in
+        let listed = Contains-permutation _ _ report (IsPermutation-reverse _) (Contains-filter_map (report_from host.peer) course.up upward report (sent upward refl) is) in
         (listed, (All-contains (IsReport (Unit {0}) lifetime _ _) reports report stands.run.orderly.settled.reports listed).forwarded) in
         stands-timeless (Some upward) (delivery_up upward) refl (down-delivery setup.settings setup.secret course.relay upward is_upward)
         (λ change is.
@@ -141,21 +137,27 @@ module _ (setup : PairSetup) (lawful : IsLawfulSetup setup) (host : Host) (among
     abbrev StandsAfter : List PairEvent → Type 0
     StandsAfter before = Stands setup host endpoint (IsInTime setup schedule host.peer) (now_of (course_of setup before).relay) (course_of setup before)
 
+    -- the gateway among those at the start
+    alone-start : filter (has_peer host.peer) (start setup).members ≡ member_of host [] ∷ []
+    alone-start =
+        let new : Host → Member = λ one. member_of one [] in
+        (alone (has_peer host.peer) (map new setup.hosts) among.0 (member_of host []) (once_by_peer (map new setup.hosts) (subst AreApart (sym (start_hosts setup.hosts)) lawful.apart) host.peer)
+        (omega (arith, among.1, length-map setup.hosts new)) (get_or-map new setup.hosts among.0 host (member_of host []) among.1 ∙ ap new among.2) (same_peer-itself host.peer)).kept
+
     stands-start : StandsAfter []
     stands-start =
         rw (course_of-none setup, now_of-nil) (record {
           up = All-nil IsUpward;
           down = none-down setup.settings;
           events = [];
-          placed = placed-start setup.hosts host lawful.apart among;
+          alone = alone-start;
           run = run-start (Unit {0}) (membership_interval_ms setup.settings) host.settings first_nonce;
           made = tt;
         })
 
     hosted : (before : List PairEvent) → All (IsHosted setup.settings) (course_of setup before).members
-    hosted before =
-        All-from_contains (IsHosted setup.settings) (course_of setup before).members
-        (λ member in_list. All-contains (IsHost setup.settings) setup.hosts member.host lawful.hosts (listed setup before member in_list))
+    hosted before k default below =
+        All-contains (IsHost setup.settings) setup.hosts _ lawful.hosts (listed setup before _ (Contains-get_or (course_of setup before).members k default below))
 
     stands-along : (before later : List PairEvent) → schedule ≡ before ++ later → All (IsPairEvent setup.hosts) later → StandsAfter before → StandsAfter schedule
     stands-along before [] whole may stands = subst StandsAfter (sym (whole ∙ append-nil before)) stands

@@ -65,7 +65,7 @@ reached_hosts event reaches (member ∷ members) =
     let rest = reached_hosts event reaches members in
     cc
 
-start_hosts : (hosts : List Host) → map host_at (map (λ host. record { host = host; events = [] }) hosts) ≡ hosts
+pub start_hosts : (hosts : List Host) → map host_at (map (λ host. record { host = host; events = [] }) hosts) ≡ hosts
 start_hosts [] = refl
 start_hosts (host ∷ hosts) = ap (λ (rest : List Host). host ∷ rest) (start_hosts hosts)
 

@@ -1,11 +1,11 @@
 -- How a course shows one gateway: as a tunnel between the gateway and the relay, and the entries that its reports made.
-use Rattle.std.proofs.{Common.{◌≡◌, ℕ, max, Bool, true, false, cond, if◌then◌else◌, List, [], ◌∷◌, ◌++◌, map, reverse, All, Option, Some, None, refl, sym, ap, subst, ◌∙◌, inl, inr}, lemmas.{Bool.{cases_Bool}, List.{map-append, reverse-append, Elements.{All-append, All-map, All-weaker}}}}
+use Rattle.std.proofs.{Common.{◌≡◌, ℕ, max, Bool, true, false, cond, if◌then◌else◌, List, [], ◌∷◌, ◌++◌, filter, map, reverse, All, Option, Some, None, refl, sym, ap, subst, ◌∙◌, inl, inr}, lemmas.{Bool.{cases_Bool}, List.{map-append, reverse-append, Elements.{All-append}}}}
 use Rattle.amt_values.specs.{EndpointValue.{EndpointValue}, declared.peer.Peer.{Peer}}
 use Rattle.endpoint_membership.{specs.{Log.{brought, latest}, declared.change.Change.{Change}}, proofs.HoldsAfter.{latest-reverse}}
 use Rattle.gateway_machine.specs.{Runs.{Run, run_of}, Settings.{HasSourceOfFamily}, declared.event.GatewayEvent.{GatewayEvent}}
 use Rattle.relay_machine.{specs.{Accepted.{accepted_log, entry_of}, Answers.{sends_of}, Events.{now_of}, Settings.{membership_interval_ms}, declared.event.Event.{Event}}, proofs.PublishedLog.{latest-accepted_log}}
 use Rattle.amt_pair.specs.{Agreement.{report_from}, Events.{MayHappen}, Schedule.{Course, Entry, Member, Upward, with_entry, with_gateway_event, with_member_event, with_relay_event}, Sent.{SentReport}, Setup.{Host, PairSetup, first_nonce}}
-use Rattle.amt_pair.proofs.{Courses.{changes_of, if_reached, later_by, reached-kept}, DownDatagrams.{IsDown}, GatewaySteps.{IsRun, States, moment_passed, run-next}, PeerReports.{IsOther, reports_from, reports_from-event}}
+use Rattle.amt_pair.proofs.{Courses.{changes_of, if_reached, later_by, reached-kept}, DownDatagrams.{IsDown}, GatewaySteps.{IsRun, States, moment_passed, run-next}, PeerReports.{has_peer, reports_from, reports_from-event}}
 use Rattle.amt_pair.proofs.{Tunnel.{Tunnel, reports_on, see}, TunnelEntries.{AreMade, AreMade-sent, IsMade, Made, changes_made}, Upwards.{IsHosted, IsUpward, upwards-after}}
 
 -- ---- a course as the tunnel of a gateway
@@ -55,46 +55,31 @@ run_at host events = run_of host.settings first_nonce events
 abbrev pub shown : Host → List GatewayEvent → Course → Tunnel
 shown host events course = see (run_at host events).exchange (run_at host events).history (reports_from host.peer course.up)
 
--- the gateway among the members of a course, of which no other has its peer
-pub record IsPlaced (host : Host) (events : List GatewayEvent) (members : List Member) : Type 0 where
-  pub before : List Member
-  pub after : List Member
-  pub whole : members ≡ before ++ member_of host events ∷ after
-  pub others_before : All (IsOther host.peer) before
-  pub others_after : All (IsOther host.peer) after
-
 -- what holds of a course, and what it shows of one gateway, that has come to the moment
 pub record Stands (setup : PairSetup) (host : Host) (endpoint : EndpointValue) (InTime : Type 0) (now : ℕ) (course : Course) : Type 0 where
   pub up : All IsUpward course.up
   pub down : All (IsDown setup.settings) course.down
   pub events : List GatewayEvent
-  pub placed : IsPlaced host events course.members
+  pub alone : filter (has_peer host.peer) course.members ≡ member_of host events ∷ []
   pub run : IsRun (Unit {0}) (membership_interval_ms setup.settings) host.settings first_nonce now events (reports_from host.peer course.up)
   pub made : AreMade InTime endpoint (reports_from host.peer course.up) (made_for host.peer course.entries)
 
 -- ---- an event of gateways
 
-others-after : (peer : Peer) (event : GatewayEvent) (reaches : Member → Bool) (members : List Member) → All (IsOther peer) members
-    → All (IsOther peer) (map (if_reached event reaches) members)
-others-after peer event reaches members others =
-    All-map (IsOther peer) (if_reached event reaches) members
-    (All-weaker (IsOther peer) (λ member. IsOther peer (if_reached event reaches member))
-    (λ member other. reached-kept (IsOther peer) event (reaches member) member (λ same. same) other) members others)
-
--- the gateway's place after the event
-placed-after : (host : Host) (events later : List GatewayEvent) (event : GatewayEvent) (reaches : Member → Bool) (members : List Member)
-    → if_reached event reaches (member_of host events) ≡ member_of host later → IsPlaced host events members
-    → IsPlaced host later (map (if_reached event reaches) members)
-placed-after host events later event reaches members own placed = record {
-  before = map (if_reached event reaches) placed.before;
-  after = map (if_reached event reaches) placed.after;
-  whole =
-      ap (map (if_reached event reaches)) placed.whole
-      ∙ map-append (if_reached event reaches) placed.before (member_of host events ∷ placed.after)
-      ∙ ap (λ (member : Member). map (if_reached event reaches) placed.before ++ member ∷ map (if_reached event reaches) placed.after) own;
-  others_before = others-after host.peer event reaches placed.before placed.others_before;
-  others_after = others-after host.peer event reaches placed.after placed.others_after;
-}
+-- the gateways of the peer after the event
+alone-after : (peer : Peer) (event : GatewayEvent) (reaches : Member → Bool) (members : List Member)
+    → filter (has_peer peer) (map (if_reached event reaches) members) ≡ map (if_reached event reaches) (filter (has_peer peer) members)
+alone-after peer event reaches [] = refl
+alone-after peer event reaches (member ∷ members) =
+    let same : has_peer peer (if_reached event reaches member) ≡ has_peer peer member =
+    reached-kept (λ one. has_peer peer one ≡ has_peer peer member) event (reaches member) member (λ same. same) refl in
+    let rest = alone-after peer event reaches members in
+    (λ i. cond (same i) (if_reached event reaches member ∷ rest i) (rest i)) ∙ first (has_peer peer member)
+  where
+    first : (test : Bool) → cond test (if_reached event reaches member ∷ map (if_reached event reaches) (filter (has_peer peer) members)) (map (if_reached event reaches) (filter (has_peer peer) members))
+        ≡ map (if_reached event reaches) (cond test (member ∷ filter (has_peer peer) members) (filter (has_peer peer) members))
+    first true = refl
+    first false = refl
 
 module _ (setup : PairSetup) (host : Host) (endpoint : EndpointValue) (InTime : Type 0) (now : ℕ) (event : GatewayEvent) (reaches : Member → Bool) (course : Course)
     (hosts : All (IsHosted setup.settings) course.members) (stands : Stands setup host endpoint InTime now course) where
@@ -102,10 +87,7 @@ module _ (setup : PairSetup) (host : Host) (endpoint : EndpointValue) (InTime : 
   reports-after : (reached : Bool) → reaches (member_of host stands.events) ≡ reached
       → reports_from host.peer (with_member_event event reaches course).up
       ≡ cond reached (reports_on host.settings (run_at host stands.events) event) [] ++ reports_from host.peer course.up
-  reports-after reached is =
-      let placed = stands.placed in
-      ap (λ (members : List Member). reports_from host.peer (with_member_event event reaches (record course { members = members })).up) placed.whole
-      ∙ reports_from-event host.peer event reaches course.up placed.before placed.after (member_of host stands.events) reached refl is placed.others_before placed.others_after
+  reports-after reached is = reports_from-event host.peer event reaches course.up course.members (member_of host stands.events) reached stands.alone refl is
 
   -- by its events and its reports then
   stands-with : (reached : Bool) (later : List GatewayEvent) → reaches (member_of host stands.events) ≡ reached
@@ -120,8 +102,9 @@ module _ (setup : PairSetup) (host : Host) (endpoint : EndpointValue) (InTime : 
         up = upwards-after setup.settings event reaches course.up course.members hosts stands.up;
         down = stands.down;
         events = later;
-        placed = placed-after host stands.events later event reaches course.members
-            (ap (λ (test : Bool). if test then with_gateway_event event (member_of host stands.events) else member_of host stands.events) is ∙ own) stands.placed;
+        alone = alone-after host.peer event reaches course.members ∙ ap (map (if_reached event reaches)) stands.alone
+            ∙ ap (λ (test : Bool). (if test then with_gateway_event event (member_of host stands.events) else member_of host stands.events) ∷ []) is
+            ∙ ap (λ (member : Member). member ∷ []) own;
         run = subst (IsRun (Unit {0}) (membership_interval_ms setup.settings) host.settings first_nonce (later_by (moment_passed event) now) later) (sym reports) run;
         made = subst (λ (sent : List SentReport). AreMade InTime endpoint sent (made_for host.peer course.entries)) (sym reports)
             (AreMade-sent InTime endpoint (reports_from host.peer course.up) more (made_for host.peer course.entries) stands.made);
@@ -163,7 +146,7 @@ stands-relay setup host endpoint InTime now by event course sends entry stands =
   up = stands.up;
   down = All-append (IsDown setup.settings) course.down (sends_of setup.settings setup.secret course.relay event) stands.down sends;
   events = stands.events;
-  placed = stands.placed;
+  alone = stands.alone;
   run = stands.run;
   made = made-with host.peer endpoint InTime (reports_from host.peer course.up) course.entries by (entry_of setup.settings setup.secret course.relay event) entry stands.made;
 }

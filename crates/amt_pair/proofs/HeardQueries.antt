@@ -1,7 +1,7 @@
 -- A gateway accepts the Query that its relay sends for its Request.
-use Rattle.std.{proofs.{Common.{◌≡◌, ℕ, ◌<◌, ◌^◌, Bool, true, List, length, Option, Some, Result, Ok, refl, ap, ◌∙◌, arith, length-take-le}, lemmas.{Bool.{eq-eqb}, Cmp.{eq_by_cmp_equiv}}}, specs.Ordering.{eq_by_cmp}}
+use Rattle.std.{proofs.{Common.{◌≡◌, ℕ, ◌<◌, ◌^◌, eqb, eqb-true, Bool, true, List, length, Option, Some, Result, Ok, refl, ap, ◌∙◌, arith, length-take-le}, lemmas.{Bool.{and_parts, eq-eqb}, Cmp.{eq_by_cmp_equiv}, Map.Views.{tells_apart}}}, specs.Ordering.{eq_by_cmp}}
 use Rattle.sha2.proofs.Facts256.{length-sha256}
-use Rattle.amt_values.{specs.{EndpointValue.{EndpointValue}, Order.{ip_order}, declared.peer.Peer.{Peer}}, proofs.Orders.{ip_order-total}}
+use Rattle.amt_values.{specs.{EndpointValue.{EndpointValue}, Order.{ip_order}, declared.peer.Peer.{Peer}}, proofs.Orders.{ip_order-exact, ip_order-total}}
 use Rattle.amt_messages.{specs.{Layout.{spelling_of}, Messages.{IsGateway}, Refusal.{message_of}, declared.{message.Message.{Message}, refusal.Refused.{Refused}}}, proofs.{Spelled.{spelled_is_read}, Written.{written_query}}}
 use Rattle.response_mac.specs.{Hmac.{hmac_of}, ResponseMac.{authenticated_octets, mac_of}, declared.secret.Secret.{Secret}}
 use Rattle.source_filter.specs.declared.query.QueryFields.{QueryFields}
@@ -34,6 +34,14 @@ pub same_peer-itself : (peer : Peer) → same_peer peer peer ≡ true
 same_peer-itself peer =
     let ip : eq_by_cmp ip_order peer.ip peer.ip ≡ true = (eq_by_cmp_equiv ip_order-total).refl peer.ip in
     rw ip (eq-eqb peer.port peer.port refl)
+
+-- and peers that are told to be one are one
+pub same_peer-is : (one other : Peer) → same_peer one other ≡ true → one ≡ other
+same_peer-is one other same =
+    let parts = and_parts (eq_by_cmp ip_order one.ip other.ip) (eqb one.port other.port) same in
+    let ip : one.ip ≡ other.ip = tells_apart ip_order-exact one.ip other.ip parts.0 in
+    let port : one.port ≡ other.port = eqb-true one.port other.port parts.1 in
+    λ i. record { ip = ip i; port = port i }
 
 -- a Query that came from the relay of whom it is awaited, with the nonce in use, is heeded
 pub fields_heard-general_query : (settings : Settings) (v6 : Bool) (exchange : Exchange) (relay : Peer) (nonce : ℕ) → AreLawfulSettings settings

@@ -1,11 +1,10 @@
--- The filter of a group for all sockets: its sources are such as those of the sockets are, and it is known by
--- the change records.
+-- The filter of a group for all sockets: its sources are such as those of the sockets are.
 use Rattle.std.{proofs.{Common.{◌≡◌, not, false, List, [], ◌∷◌, ◌++◌, sym, ◌∙◌}, lemmas.{Bool.{or_parts}, List.Elements.{All-cons, All-filter, All-head, All-map, All-nil, All-tail}}}, specs.List.{All}}
 use Rattle.amt_values.{specs.{Order.{ip_order}, declared.address.Ip.{Ip}, Ascending.{IsAscending, has, intersection}}, proofs.{Orders.{ip_order-total}, AscendingLaws.{IsAscending-ascending, IsAscending-filter, has-append}}}
-use Rattle.source_filter.{specs.{Changes.{changes_on}, Filter.{FilterValue, nothing}, Merging.{all_sources, common_sources, exclude_list, exclude_lists, include_lists, intersection_of, merged, merged_by, union_of}, declared.mode.Mode.{Mode, TheVariants.{Include, Exclude}}}, proofs.AppliedChanges.{changes-applied}}
+use Rattle.source_filter.{specs.{Filter.{FilterValue, nothing}, Merging.{all_sources, common_sources, exclude_list, exclude_lists, include_lists, intersection_of, merged, merged_by, union_of}, declared.mode.Mode.{Mode, TheVariants.{Include, Exclude}}}}
 use Rattle.group_records.specs.declared.family.Family.{Family}
-use Rattle.socket_merge.{specs.{History.{AcceptedCall, group_opened, groups_opened, open_sockets}, declared.stored.Socket.{Socket}, Interface.{filters_on, interface, on_group, same_group}}, proofs.{ByGroup.{unwanted}, ShortChanges.{changes-itself as changes-same}}}
-use Rattle.amt_pair.proofs.{AcceptedCalls.{AreAccepted}, MadeGood.{unwanted-nothing}, OpenSockets.{HaveFilters, IsFilterOf, IsSocketOf, sockets-of}}
+use Rattle.socket_merge.{specs.{History.{AcceptedCall, group_opened, groups_opened, open_sockets}, declared.stored.Socket.{Socket}, Interface.{filters_on, interface, on_group, same_group}}, proofs.ByGroup.{unwanted}}
+use Rattle.amt_pair.proofs.{Histories.{IsFilterOf, IsHistoryOf, IsSocketOf}, MadeGood.{unwanted-nothing}}
 
 -- ---- merged filters ascend
 
@@ -40,11 +39,11 @@ ascending-merged filters all = ascending-by (exclude_lists filters) (include_lis
 
 -- ---- the filters of a group's sockets
 
-module _ (family : Family) (history : List AcceptedCall) (accepted : AreAccepted family history) (filters : HaveFilters history) where
+module _ (family : Family) (history : List AcceptedCall) (is : IsHistoryOf family history) where
   -- the filters of a group's sockets are such as sockets have
   pub filters-of : (group : Ip) → All (IsFilterOf family) (filters_on group (open_sockets history))
   filters-of group =
-      let own = All-filter (λ (socket : Socket). same_group group socket.group) (IsSocketOf family) (open_sockets history) (sockets-of family history accepted filters) in
+      let own = All-filter (λ (socket : Socket). same_group group socket.group) (IsSocketOf family) (open_sockets history) is.sockets in
       All-map (IsFilterOf family) (λ (socket : Socket). socket.filter) (on_group group (open_sockets history)) (λ k socket below. (own k socket below).filter)
 
   pub interface-ascends : (group : Ip) → Ascends (interface history group).sources
@@ -63,13 +62,3 @@ pub unopened-before : (newest : AcceptedCall) (older : List AcceptedCall) (group
 unopened-before newest older group none =
     (or_parts (has ip_order (group_opened newest.call) group) (has ip_order (groups_opened older) group)
     (sym (has-append ip_order (group_opened newest.call) (groups_opened older) group) ∙ none)).1
-
--- ---- filters by their change records
-
--- where a filter stays, nothing is told of its change
-pub changes-itself : (filter : FilterValue) (group : Ip) → changes_on filter filter group ≡ []
-changes-itself filter group = changes-same filter.mode filter.sources group
-
--- where nothing is told of a change, the filter stays
-pub same-filter : (old new : FilterValue) (group : Ip) → IsAscending ip_order old.sources → IsAscending ip_order new.sources → changes_on old new group ≡ [] → old ≡ new
-same-filter old new group old_ascends new_ascends none = changes-applied old new group old_ascends new_ascends [] (sym none)

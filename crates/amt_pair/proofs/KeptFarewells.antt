@@ -1,9 +1,10 @@
 -- The reports of a gateway's run are in order, so its farewells are kept.
-use Rattle.std.{proofs.{Common.{◌≡◌, ℕ, ◌+◌, ◌^◌, ◌<◌, true, List, [], ◌∷◌, ◌++◌, reverse, Contains, Some, refl, sym, ap, subst, ◌∙◌, append_assoc}, lemmas.List.{reverse-append, Elements.{All-contains, All-head, All-nil, All-push, All-tail, Contains-append_right, filter_map-append}}}, specs.List.{All, filter_map}}
+use Rattle.std.{proofs.{Common.{◌≡◌, ℕ, ◌+◌, ◌^◌, ◌<◌, true, List, [], ◌∷◌, ◌++◌, reverse, Contains, Some, refl, sym, ap, subst, ◌∙◌, append_assoc}, lemmas.List.{reverse-append, Elements.{All-contains, All-head, All-tail, Contains-append_right, filter_map-append}, Sorted.{All-permutation, Contains-permutation, IsPermutation-reverse}}}, specs.List.{All, filter_map}}
+use mathlib.Core.List.{reverse-cons}
 use Rattle.amt_values.specs.declared.address.Ip.{Ip}
 use Rattle.endpoint_membership.specs.Log.{on_group}
 use Rattle.gateway_machine.specs.{Runs.{run_of}, Settings.{HasSourceOfFamily}, declared.{event.GatewayEvent.{GatewayEvent}, settings.GatewaySettings.{GatewaySettings}}}
-use Rattle.amt_pair.{specs.{Events.{AreEventsOf, MayHappen}, Sent.{Sent, SentReport, report_of, sent_back, sent_in, sent_on}, Silence.{KeepsFarewells, SayNothing}}, proofs.{Courses.{later_by}, GatewaySteps.{IsRun, moment_passed, run-next, run-start}, Listed.{Contains-filter_map, Contains-first, Contains-reverse, reverse-cons}, TunnelReports.{AreFarewellsKept}}}
+use Rattle.amt_pair.{specs.{Events.{AreEventsOf, MayHappen}, Sent.{Sent, SentReport, report_of, sent_back, sent_in, sent_on}, Silence.{KeepsFarewells, SayNothing}}, proofs.{Courses.{later_by}, GatewaySteps.{IsRun, moment_passed, run-next, run-start}, Listed.{Contains-filter_map, Contains-first}, TunnelReports.{AreFarewellsKept}}}
 
 -- the reports among what was sent, newest first
 abbrev reports_back : List Sent → List SentReport
@@ -12,11 +13,6 @@ reports_back sent = reverse (filter_map report_of sent)
 reports-after : (sent more : List Sent) → reports_back (sent ++ more) ≡ reports_back more ++ reports_back sent
 reports-after sent more =
     ap (λ (reports : List SentReport). reverse reports) (filter_map-append report_of sent more) ∙ reverse-append (filter_map report_of sent) (filter_map report_of more)
-
-All-reverse : {X : Type 0} (Fact : X → Type 0) (xs : List X) → All Fact xs → All Fact (reverse xs)
-All-reverse Fact [] all = All-nil Fact
-All-reverse Fact (x ∷ xs) all =
-    subst (All Fact) (sym (reverse-cons x xs)) (All-push Fact (reverse xs) x (All-reverse Fact xs (All-tail Fact x xs all)) (All-head Fact x xs all))
 
 -- where a run has come to, by its events, newest first; what its relay is doesn't count
 record HasCome (settings : GatewaySettings) (first : ℕ) (past : List GatewayEvent) : Type 0 where
@@ -52,7 +48,7 @@ one-report sent report is = rw is refl
 pub run-keeps_farewells : (settings : GatewaySettings) (first : ℕ) (events : List GatewayEvent) → HasSourceOfFamily settings → first < 2 ^ 32 → AreEventsOf settings events
     → KeepsFarewells (sent_in settings first events)
 run-keeps_farewells settings first events own small all earlier full group comes none recent =
-    let run = (come settings first own (reverse events) (All-reverse (MayHappen settings) events all)).run in
+    let run = (come settings first own (reverse events) (All-permutation (MayHappen settings) events (reverse events) (IsPermutation-reverse events) all)).run in
     let past = comes.before ++ comes.one ∷ comes.between in
     let order =
     ap reports_back (comes.order ∙ sym (append_assoc comes.before (comes.one ∷ comes.between) (comes.other ∷ comes.after)))
@@ -61,6 +57,6 @@ run-keeps_farewells settings first events own small all earlier full group comes
     ∙ ap (λ (found : List SentReport). reports_back comes.after ++ found) (one-report comes.other full comes.full_is))
     ∙ append_assoc (reports_back comes.after) (full ∷ []) (reports_back past) in
     kept_between (reports_back comes.after) (reports_back past) full earlier group (subst AreFarewellsKept order run.orderly.settled.farewells)
-    (Contains-reverse _ earlier (Contains-filter_map report_of past comes.one earlier
+    (Contains-permutation _ _ earlier (IsPermutation-reverse _) (Contains-filter_map report_of past comes.one earlier
     (Contains-append_right comes.before (comes.one ∷ comes.between) comes.one (Contains-first comes.one comes.between)) comes.earlier_is))
     comes.is_full none recent

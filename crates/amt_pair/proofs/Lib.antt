@@ -1,4 +1,3 @@
-pub mod AcceptedCalls
 pub mod Alone
 pub mod BothEnds
 pub mod CourseSteps
@@ -8,17 +7,15 @@ pub mod DownDatagrams
 pub mod Follows
 pub mod GatewaySteps
 pub mod HeardQueries
-pub mod Hosts
+pub mod Histories
 pub mod HostsApart
 pub mod InterfaceFilters
 pub mod KeptFarewells
-pub mod KeptCalls
 pub mod Listed
 pub mod MadeGood
 pub mod MembersAt
 pub mod Moments
 pub mod Numbers
-pub mod OpenSockets
 pub mod PairStates
 pub mod PeerReports
 pub mod QueryTimes

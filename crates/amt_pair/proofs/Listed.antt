@@ -1,6 +1,7 @@
 -- Items of lists: where they stand, and what a list of them comes to with one more at its end.
-use Rattle.std.proofs.{Common.{◌≡◌, ℕ, zero, suc, ◌+◌, ◌-◌, ◌⊎◌, nat_lt, Bool, true, false, cond, List, [], ◌∷◌, ◌++◌, drop, get_or, reverse, slice_get, take, All, Contains, Option, Some, None, refl, sym, ap, subst, ◌∙◌, arith, inl, inr, take-append-drop}, lemmas.{List.{append-nil, at_drop_more, reverse-append, Elements.{Contains-append_cases, Contains-append_left, Contains-append_right, Contains-get_or, Contains-push, filter-append, filter_map-append}}, Option.{get_or_from_slice_get, slice_get_within}}}
+use Rattle.std.proofs.{Common.{◌≡◌, ℕ, zero, suc, ◌-◌, ◌⊎◌, nat_lt, Bool, true, false, cond, List, [], ◌∷◌, ◌++◌, reverse, slice_get, Contains, Option, Some, None, refl, ap, ◌∙◌, arith, inl, inr}, lemmas.{Bool.{cond_both}, List.{append-nil, Elements.{Contains-append_right, filter-append}}, Option.{get_or_from_slice_get, slice_get_within}}}
 use Rattle.std.specs.List.{cons_option, filter, filter_map}
+use mathlib.Core.List.{reverse-cons}
 use Rattle.gateway_machine.specs.Laws.{last_of}
 use Rattle.amt_pair.specs.Schedule.{numbered}
 
@@ -20,39 +21,15 @@ module _ {X : Type 0} where
   pub none-in : (x : X) → Contains [] x → ⊥
   none-in x (place, below, is) = absurd (omega arith)
 
-  -- the lists before and after the item
-  pub record IsSplit (xs : List X) (x : X) : Type 0 where
-    pub before : List X
-    pub after : List X
-    pub whole : xs ≡ before ++ x ∷ after
-
-  pub split-at : (xs : List X) (x : X) → Contains xs x → IsSplit xs x
-  split-at xs x (place, below, is) = record {
-    before = take place xs;
-    after = drop (place + 1) xs;
-    whole = sym (take-append-drop place xs) ∙ at_drop_more (λ (rest : List X). take place xs ++ rest) xs place x below
-        ∙ ap (λ (one : X). take place xs ++ one ∷ drop (place + 1) xs) is;
-  }
-
-  -- an item is one of those before, the one between, or one of those after
-  pub middle-cases : (before after : List X) (x y : X) → Contains (before ++ x ∷ after) y → Contains before y ⊎ ((x ≡ y) ⊎ Contains after y)
-  middle-cases before after x y among = elim (Contains-append_cases before (x ∷ after) y among) [
-    | inl first ↦ inl first
-    | inr rest ↦ inr (first-is x y after rest)
+  -- an item that passes a test is among those that do
+  pub Contains-kept : (test : X → Bool) (xs : List X) (x : X) → Contains xs x → test x ≡ true → Contains (filter test xs) x
+  Contains-kept test [] x among passes = absurd (none-in x among)
+  Contains-kept test (first ∷ xs) x among passes = elim (first-is first x xs among) [
+    | inl is ↦ let here : test first ≡ true = ap test is ∙ passes in rw here (0, omega arith, is)
+    | inr later ↦
+        let rest = Contains-kept test xs x later passes in
+        cond_both (test first) (first ∷ filter test xs) (filter test xs) (λ kept. Contains kept x) (λ _. Contains-later first x (filter test xs) rest) (λ _. rest)
   ]
-
-  pub All-from_contains : (P : X → Type 0) (xs : List X) → ((x : X) → Contains xs x → P x) → All P xs
-  All-from_contains P xs each = λ k d below. each (get_or xs k d) (Contains-get_or xs k d below)
-
-  pub reverse-cons : (x : X) (xs : List X) → reverse (x ∷ xs) ≡ reverse xs ++ x ∷ []
-  reverse-cons x xs = reverse-append (x ∷ []) xs
-
-  pub Contains-reverse : (xs : List X) (x : X) → Contains xs x → Contains (reverse xs) x
-  Contains-reverse xs x among =
-      let split = split-at xs x among in
-      subst (λ (all : List X). Contains all x) (sym (ap (λ (all : List X). reverse all) split.whole ∙ reverse-append split.before (x ∷ split.after)))
-      (Contains-append_left (reverse (x ∷ split.after)) (reverse split.before) x
-      (subst (λ (all : List X). Contains all x) (sym (reverse-cons x split.after)) (Contains-push (reverse split.after) x)))
 
   -- ---- the item of a number
 
@@ -87,8 +64,12 @@ module _ {X : Type 0} where
       ∙ last-by (test x) (filter test (reverse older)) x
 
 pub Contains-filter_map : {X Y : Type 0} (f : X → Option Y) (xs : List X) (x : X) (y : Y) → Contains xs x → f x ≡ Some y → Contains (filter_map f xs) y
-Contains-filter_map {X} {Y} f xs x y among is =
-    let split = split-at xs x among in
-    subst (λ (all : List Y). Contains all y) (sym (ap (filter_map f) split.whole ∙ filter_map-append f split.before (x ∷ split.after)))
-    (Contains-append_right (filter_map f split.before) (filter_map f (x ∷ split.after)) y
-    (subst (λ (found : Option Y). Contains (cons_option found (filter_map f split.after)) y) (sym is) (0, omega arith, refl)))
+Contains-filter_map {X} {Y} f [] x y among is = absurd (none-in x among)
+Contains-filter_map {X} {Y} f (first ∷ xs) x y among is = elim (first-is first x xs among) [
+  | inl same ↦ let here : f first ≡ Some y = ap f same ∙ is in rw here (0, omega arith, refl)
+  | inr later ↦ onto (f first) (Contains-filter_map f xs x y later is)
+]
+  where
+    onto : (found : Option Y) → Contains (filter_map f xs) y → Contains (cons_option found (filter_map f xs)) y
+    onto None rest = rest
+    onto (Some z) rest = Contains-later z y (filter_map f xs) rest

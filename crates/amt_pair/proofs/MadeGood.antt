@@ -69,10 +69,6 @@ pub IsMadeGood-call : (newest : AcceptedCall) (history : List AcceptedCall) (gro
 IsMadeGood-call newest history group moment records onward good at keep none within =
     good at keep (unnamed-call newest history at keep group none (omega arith)).2 within
 
-pub IsMadeGood-same : (history : List AcceptedCall) (group : Ip) (moment : ℕ) (records others : List Record) → others ≡ records
-    → IsMadeGood history group moment records → IsMadeGood history group moment others
-IsMadeGood-same history group moment records others same good at keep none within = All-same IsLeaving others records same (good at keep none within)
-
 full_leaves : (wanted recent : Bool) (state : Record) (group : Ip) → wanted ≡ false → All IsLeaving (cond wanted (state ∷ []) (cond recent (farewell group ∷ []) []))
 full_leaves true recent state group unwanted = absurd cc
 full_leaves false true state group unwanted = All-cons IsLeaving (farewell group) [] (record { kind = refl; sources = refl }) (All-nil IsLeaving)

@@ -1,9 +1,9 @@
 -- Where the gateways of a pair are, one by one and all together.
-use Rattle.std.{proofs.{Common.{◌≡◌, ◌≤◌, ◌<◌, ℕ, zero, suc, ◌||◌, Bool, true, List, [], ◌∷◌, ◌++◌, map, length, get_or, set, All, HoldsAt, IfSome, Option, Some, None, refl, sym, ap, ◌∙◌, subst, arith}, lemmas.List.Elements.{All-append, All-map}}, specs.List.{list_any}}
+use Rattle.std.{proofs.{Common.{◌≡◌, ◌≤◌, ◌<◌, ℕ, zero, suc, ◌||◌, Bool, List, [], ◌∷◌, ◌++◌, map, length, get_or, set, All, refl, sym, ap, ◌∙◌, subst, subst₂, arith}, lemmas.List.Elements.{All-append, All-map}}, specs.List.{list_any}}
 use Rattle.amt_values.specs.declared.peer.Peer.{Peer}
 use Rattle.gateway_machine.specs.{Answers.{history_after, same_peer}, Sends.{Sending, datagram_of}, declared.{event.GatewayEvent.{GatewayEvent}, exchange.Exchange.{Exchange}, step.PeerSend.{PeerSend}}}
 use Rattle.socket_merge.specs.History.{AcceptedCall, same_name}
-use Rattle.amt_pair.{specs.{Members.{AreMembersAt, AreShort, IsMemberAt, IsPlaceOf, host_of, kept_datagram, kept_upward}, Schedule.{Member, Upward, answer_at, run_of_member, upwards_on}, Sent.{Sent}, Setup.{Host, has_taken}, declared.{datagrams.UpDatagram.{UpDatagram}, gateways.NamedGateway.{NamedGateway}}}, proofs.Alone.{NonePasses}}
+use Rattle.amt_pair.{specs.{Members.{AreMembersAt, AreShort, IsMemberAt, host_of, kept_datagram, kept_upward}, Schedule.{Member, Upward, answer_at, run_of_member, upwards_on}, Sent.{Sent}, Setup.{Host, has_taken}, declared.{datagrams.UpDatagram.{UpDatagram}, gateways.NamedGateway.{NamedGateway}}}, proofs.Alone.{NonePasses}}
 
 abbrev sent_with : Exchange → List AcceptedCall → Sending → Sent
 sent_with next history sending = record { sending = sending; exchange = next; history = history }
@@ -67,82 +67,25 @@ lengths_are [] [] at = refl
 lengths_are (named ∷ gateways) (member ∷ members) at = ap suc (lengths_are gateways members at.1)
 lengths_are gateways members at = absurd at
 
--- the gateway at a place, and those before and after it
-pub record IsSplitAt (before : List NamedGateway) (one : NamedGateway) (after : List NamedGateway) (members : List Member) : Type 0 where
-  pub first : List Member
-  pub member : Member
-  pub rest : List Member
-  pub split : members ≡ first ++ member ∷ rest
-  pub place : length before ≡ length first
-  pub at : IsMemberAt one member
+member_at : (gateways : List NamedGateway) (members : List Member) (place : ℕ) (named : NamedGateway) (member : Member) → AreMembersAt gateways members → place < length gateways
+    → IsMemberAt (get_or gateways place named) (get_or members place member)
+member_at [] members place named member at within = absurd (omega arith)
+member_at (first ∷ gateways) [] place named member at within = absurd at
+member_at (first ∷ gateways) (other ∷ members) zero named member at within = at.0
+member_at (first ∷ gateways) (other ∷ members) (suc place) named member at within = member_at gateways members place named member at.1 (omega arith)
 
-pub split_at : (before : List NamedGateway) (one : NamedGateway) (after : List NamedGateway) (members : List Member)
-    → AreMembersAt (before ++ one ∷ after) members → IsSplitAt before one after members
-split_at [] one after [] at = absurd at
-split_at [] one after (member ∷ members) at = record { first = []; member = member; rest = members; split = refl; place = refl; at = at.0 }
-split_at (named ∷ before) one after [] at = absurd at
-split_at (named ∷ before) one after (member ∷ members) at =
-    let more = split_at before one after members at.1 in
-    record {
-      first = member ∷ more.first;
-      member = more.member;
-      rest = more.rest;
-      split = ap (λ (others : List Member). member ∷ others) more.split;
-      place = ap suc more.place;
-      at = more.at;
-    }
+-- a gateway at a place is what the member there says of it
+pub member_at_place : (items gateways : List NamedGateway) (members : List Member) (place : ℕ) (named : NamedGateway) (member : Member) → items ≡ gateways → AreMembersAt gateways members
+    → place < length gateways → named ≡ get_or items place named → get_or members place member ≡ member → IsMemberAt named member
+member_at_place items gateways members place named member view at within here there =
+    subst₂ IsMemberAt (sym (here ∙ ap (λ (all : List NamedGateway). get_or all place named) view)) there (member_at gateways members place named member at within)
 
-pub member_at : (gateways : List NamedGateway) (before after : List Member) (member : Member) (default : NamedGateway)
-    → AreMembersAt gateways (before ++ member ∷ after) → IsMemberAt (get_or gateways (length before) default) member
-member_at [] [] after member default at = absurd at
-member_at [] (other ∷ before) after member default at = absurd at
-member_at (named ∷ gateways) [] after member default at = at.0
-member_at (named ∷ gateways) (other ∷ before) after member default at = member_at gateways before after member default at.1
-
-pub members_set : (gateways : List NamedGateway) (before after : List Member) (member next : Member) (named : NamedGateway)
-    → AreMembersAt gateways (before ++ member ∷ after) → IsMemberAt named next → AreMembersAt (set gateways (length before) named) (before ++ next ∷ after)
-members_set [] [] after member next named at now = absurd at
-members_set [] (other ∷ before) after member next named at now = absurd at
-members_set (first ∷ gateways) [] after member next named at now = (now, at.1)
-members_set (first ∷ gateways) (other ∷ before) after member next named at now = (at.0, members_set gateways before after member next named at.1 now)
-
--- the same by the place and what stands there
-pub member_at_place : (gateways : List NamedGateway) (before after : List Member) (member : Member) (place : ℕ) (named : NamedGateway)
-    → AreMembersAt gateways (before ++ member ∷ after) → place ≡ length before → named ≡ get_or gateways place named → IsMemberAt named member
-member_at_place gateways before after member place named at place_is here =
-    subst (λ (one : NamedGateway). IsMemberAt one member) (sym (here ∙ ap (λ (k : ℕ). get_or gateways k named) place_is))
-    (member_at gateways before after member named at)
-
-pub members_set_place : (gateways : List NamedGateway) (before after : List Member) (member next : Member) (place : ℕ) (named : NamedGateway)
-    → AreMembersAt gateways (before ++ member ∷ after) → place ≡ length before → IsMemberAt named next
-    → AreMembersAt (set gateways place named) (before ++ next ∷ after)
-members_set_place gateways before after member next place named at place_is now =
-    subst (λ (k : ℕ). AreMembersAt (set gateways k named) (before ++ next ∷ after)) (sym place_is)
-    (members_set gateways before after member next named at now)
-
--- a place within the list, and those before and after it
-pub record IsSplit (gateways : List NamedGateway) (place : ℕ) : Type 0 where
-  pub before : List NamedGateway
-  pub one : NamedGateway
-  pub after : List NamedGateway
-  pub split : gateways ≡ before ++ one ∷ after
-  pub place_is : place ≡ length before
-  pub here : (default : NamedGateway) → get_or gateways place default ≡ one
-
-pub split_place : (gateways : List NamedGateway) (place : ℕ) → place < length gateways → IsSplit gateways place
-split_place [] place within = absurd (omega arith)
-split_place (one ∷ gateways) zero within =
-    record { before = []; one = one; after = gateways; split = refl; place_is = refl; here = λ default. refl }
-split_place (one ∷ gateways) (suc place) within =
-    let more = split_place gateways place (omega arith) in
-    record {
-      before = one ∷ more.before;
-      one = more.one;
-      after = more.after;
-      split = ap (λ (rest : List NamedGateway). one ∷ rest) more.split;
-      place_is = ap suc more.place_is;
-      here = more.here;
-    }
+pub members_set : (gateways : List NamedGateway) (members : List Member) (place : ℕ) (named : NamedGateway) (member : Member)
+    → AreMembersAt gateways members → IsMemberAt named member → AreMembersAt (set gateways place named) (set members place member)
+members_set [] [] place named member at now = tt
+members_set (first ∷ gateways) (other ∷ members) zero named member at now = (now, at.1)
+members_set (first ∷ gateways) (other ∷ members) (suc place) named member at now = (at.0, members_set gateways members place named member at.1 now)
+members_set gateways members place named member at now = absurd at
 
 pub members_more : (gateways : List NamedGateway) (members : List Member) (named : NamedGateway) (member : Member)
     → AreMembersAt gateways members → IsMemberAt named member → AreMembersAt (gateways ++ named ∷ []) (members ++ member ∷ [])
@@ -150,13 +93,28 @@ members_more [] [] named member at now = (now, tt)
 members_more (first ∷ gateways) (other ∷ members) named member at now = (at.0, members_more gateways members named member at.1 now)
 members_more gateways members named member at now = absurd at
 
+-- the gateway and the member at a place
+pub record AreAt (gateways : List NamedGateway) (members : List Member) (place : ℕ) : Type 0 where
+  pub named : NamedGateway
+  pub member : Member
+  pub here : get_or gateways place named ≡ named
+  pub there : get_or members place member ≡ member
+  pub at : IsMemberAt named member
+
+pub are_at : (gateways : List NamedGateway) (members : List Member) (place : ℕ) → AreMembersAt gateways members → place < length gateways → AreAt gateways members place
+are_at [] members place at within = absurd (omega arith)
+are_at (named ∷ gateways) [] place at within = absurd at
+are_at (named ∷ gateways) (member ∷ members) zero at within = record { named = named; member = member; here = refl; there = refl; at = at.0 }
+are_at (named ∷ gateways) (member ∷ members) (suc place) at within =
+    let rest = are_at gateways members place at.1 (omega arith) in record { named = rest.named; member = rest.member; here = rest.here; there = rest.there; at = rest.at }
+
 -- a test of a gateway's host is one of its member's
 pub none_at : (test : Host → Bool) (gateways : List NamedGateway) (members : List Member) → AreMembersAt gateways members
     → NonePasses (λ named. test (host_of named)) gateways → NonePasses (λ member. test member.host) members
-none_at test [] [] at none = tt
-none_at test (named ∷ gateways) (member ∷ members) at none =
-    (ap test (sym (host_is named member at.0)) ∙ none.0, none_at test gateways members at.1 none.1)
-none_at test gateways members at none = absurd at
+none_at test gateways members at none k default below =
+    let within : k < length gateways = omega (arith, lengths_are gateways members at) in
+    let other = (are_at gateways members k at within).named in
+    ap test (sym (host_is _ _ (member_at gateways members k other default at within))) ∙ none k other within
 
 -- a name or a peer is taken where some gateway has it
 pub taken_by : (name : List ℕ) (peer : Peer) (gateways : List NamedGateway)
@@ -164,15 +122,3 @@ pub taken_by : (name : List ℕ) (peer : Peer) (gateways : List NamedGateway)
 taken_by name peer [] = refl
 taken_by name peer (one ∷ gateways) =
     ap (λ (rest : Bool). (same_name name one.name || same_peer one.peer peer) || rest) (taken_by name peer gateways)
-
--- a place at which a gateway passes
-placed : (test : NamedGateway → Bool) (gateways : List NamedGateway) (place : ℕ) → place < length gateways
-    → HoldsAt (λ one. test one ≡ true) gateways place → IsPlaceOf test gateways place
-placed test gateways place within holds =
-    let split = split_place gateways place within in
-    (split.before, split.one, split.after, split.split, split.place_is, ap test (sym (split.here split.one)) ∙ holds split.one)
-
-pub placed_by : (test : NamedGateway → Bool) (gateways : List NamedGateway) (found : Option ℕ) → IfSome found (λ place. place < length gateways)
-    → IfSome found (HoldsAt (λ one. test one ≡ true) gateways) → IfSome found (IsPlaceOf test gateways)
-placed_by test gateways None within holds = tt
-placed_by test gateways (Some place) within holds = placed test gateways place within holds

@@ -1,13 +1,13 @@
 -- What a pair stands for after a step of the relay, of one gateway, or of all.
-use Rattle.std.{proofs.{Props.{props}, Common.{◌≡◌, ℕ, Bool, true, false, not, List, [], ◌∷◌, ◌++◌, map, flat_map, filter, length, All, Contains, Option, Some, None, IfNone, IsSome, refl, sym, ap, ◌∙◌, subst, append-nil, OnOk, OnErr, IfOk, Result, Ok, Err}, lemmas.List.{map-append, Elements.{All-contains, All-map, All-nil, recursion_from_All}}}, specs.Cmp.{nat_eq_equiv, Lexicographic.{lists_equiv}}}
+use Rattle.std.{proofs.{Props.{props}, Common.{◌≡◌, ◌<◌, ℕ, HoldsAt, Bool, true, false, List, [], ◌∷◌, ◌++◌, map, flat_map, filter, length, All, Contains, Option, Some, None, IfNone, IsSome, refl, sym, ap, ◌∙◌, subst, append-nil, arith, OnOk, OnErr, IfOk, Result, Ok, Err}, lemmas.List.{map-append, Elements.{All-contains, All-map, All-nil}}}, specs.Cmp.{nat_eq_equiv, Lexicographic.{lists_equiv}}}
 use mathlib.Core.HLevel.{is_prop→PathP}
 use Rattle.amt_values.specs.{Endpoint.{endpoint_of}, EndpointValue.{EndpointValue}}
 use Rattle.gateway_machine.specs.declared.event.GatewayEvent.{GatewayEvent, TheVariants.{Moment as Passes}}
 use Rattle.relay_machine.specs.{Accepted.{change_of}, Answers.{outcome_of, sends_of}, declared.{event.Event.{Event}, relay.Relay.{Relay as RelayValue}, sends.{OneSend.{OneSend}, Step.{Step}}}}
 use Rattle.socket_merge.specs.History.{same_name}
-use Rattle.amt_pair.specs.{Members.{AreMembersAt, AreShort, AreShortSends, IsMemberAt, IsPlaceOf, host_of, kept_upward}, OwnEndpoints.{HasOwnEndpoint}, Parts.{gateway_part, gateway_parts, relay_step}}
-use Rattle.amt_pair.specs.{Schedule.{Course, IsPairEvent, Member, Upward, has_name, is_at, is_endpoint, start, upwards_on, with_gateway_event, with_member_event}, Setup.{AreApart, Host, IsLawfulSetup, PairSetup, relay_peer}, State.{PairAt, StandsFor, with_member_at}}
-use Rattle.amt_pair.{specs.declared.{pair.Pair.{Pair}, datagrams.UpDatagram.{UpDatagram}, gateways.NamedGateway.{NamedGateway}, step.Part.TheVariants.{Relay}}, proofs.{Courses.{course_of-none}, Alone.{NonePasses, PassesOnce}, Deliveries.{once_by_endpoint, once_by_name, one_part, one_reached}, MembersAt.{host_at, host_is, hosts_are, members_more, none_at, split_at}}}
+use Rattle.amt_pair.specs.{Members.{AreMembersAt, AreShort, AreShortSends, IsMemberAt, host_of, kept_upward}, OwnEndpoints.{HasOwnEndpoint}, Parts.{relay_step}}
+use Rattle.amt_pair.specs.{Schedule.{Course, IsPairEvent, Member, Upward, has_name, is_at, is_endpoint, start, upwards_on, with_gateway_event}, Setup.{AreApart, Host, IsLawfulSetup, PairSetup, relay_peer}, State.{PairAt, StandsFor}}
+use Rattle.amt_pair.{specs.declared.{pair.Pair.{Pair}, datagrams.UpDatagram.{UpDatagram}, gateways.NamedGateway.{NamedGateway}, step.Part.TheVariants.{Relay}}, proofs.{Courses.{course_of-none}, Alone.{PassesOnce, filter_every}, Deliveries.{IsForOne, for_one}, HostsApart.{once_by_endpoint, once_by_name}, MembersAt.{are_at, host_is, hosts_are, lengths_are, members_more}}}
 
 -- a step of the relay is told by its fields
 pub relay_step_is : (setup : PairSetup) (course : Course) (event : Event) (step : Step)
@@ -25,10 +25,6 @@ pub down_more : (down after sends kept more slice : List OneSend) → down ≡ k
 down_more down after sends kept more slice is same sent kept_are =
     kept_are ∙ ap (λ (first : List OneSend). first ++ slice) is ∙ ap (λ (last : List OneSend). kept ++ last) (same ∙ sent)
 
-filter_all : {X : Type 0} (xs : List X) → filter (λ x. true) xs ≡ xs
-filter_all [] = refl
-filter_all {X} (x ∷ xs) = ap (λ (rest : List X). x ∷ rest) (filter_all xs)
-
 -- a moment that has come to all gateways
 pub all_are : (at : ℕ) (gateways : List NamedGateway) (members : List Member) → AreMembersAt gateways (map (with_gateway_event (Passes at)) members ++ [])
     → AreMembersAt gateways (map (with_gateway_event (Passes at)) members)
@@ -39,67 +35,31 @@ pub up_of_all : (at : ℕ) (up after : List UpDatagram) (kept : List Upward) (me
     → after ≡ map kept_upward (kept ++ flat_map (upwards_on (Passes at)) (filter (λ member. true) members))
 up_of_all at up after kept members is sent =
     up_more up after kept (flat_map (upwards_on (Passes at)) members) is sent
-    ∙ ap (λ (all : List Member). map kept_upward (kept ++ flat_map (upwards_on (Passes at)) all)) (sym (filter_all members))
+    ∙ ap (λ (all : List Member). map kept_upward (kept ++ flat_map (upwards_on (Passes at)) all)) (sym (filter_every (λ member. true) members (λ k member below. refl)))
 
-pub true_by : (answer : Bool) → not answer ≡ false → answer ≡ true
-true_by true is = refl
-true_by false is = cc
+-- ---- the gateway that an event is for
 
-pub false_by : (answer : Bool) → not answer ≡ true → answer ≡ false
-false_by true is = cc
-false_by false is = refl
+module _ (gateways : List NamedGateway) (course : Course) (place : ℕ) (are : AreMembersAt gateways course.members) (within : place < length gateways) where
+  one_at : (event : GatewayEvent) (test : Host → Bool) → HoldsAt (λ one. test (host_of one) ≡ true) gateways place → PassesOnce (λ member. test member.host) course.members
+      → IsForOne event (λ member. test member.host) course place
+  one_at event test passes once =
+      let at = are_at gateways course.members place are within in
+      for_one event (λ member. test member.host) course place at.member once (omega (arith, lengths_are gateways course.members are)) at.there
+      (ap test (sym (host_is at.named at.member at.at)) ∙ ap (λ (one : NamedGateway). test (host_of one)) (sym at.here) ∙ passes at.named)
 
--- the gateway that an event is for
-pub record IsForOne (event : GatewayEvent) (reaches : Member → Bool) (course : Course) (place : ℕ) : Type 0 where
-  pub before : List Member
-  pub member : Member
-  pub after : List Member
-  pub split : course.members ≡ before ++ member ∷ after
-  pub place_is : place ≡ length before
-  pub reached : with_member_event event reaches course ≡ with_member_at course event before member after
-  pub part : gateway_parts event (filter reaches course.members) ≡ gateway_part event member ∷ []
+  module _ (apart : AreApart (map host_of gateways)) where
+    -- the gateway of a name
+    pub named_one : (event : GatewayEvent) (name : List ℕ) → HoldsAt (λ one. same_name name one.name ≡ true) gateways place → IsForOne event (has_name name) course place
+    named_one event name passes =
+        one_at event (λ host. same_name name host.name) passes (once_by_name course.members (subst AreApart (hosts_are gateways course.members are) apart) name)
 
-for_one : (event : GatewayEvent) (test : Host → Bool) (gateways : List NamedGateway) (course : Course) (place : ℕ) → AreMembersAt gateways course.members
-    → IsPlaceOf (λ one. test (host_of one)) gateways place → PassesOnce (λ member. test member.host) course.members
-    → IsForOne event (λ member. test member.host) course place
-for_one event test gateways course place are (before, one, after, gateways_are, place_is, passes) once =
-    let split = split_at before one after course.members (subst (λ (all : List NamedGateway). AreMembersAt all course.members) gateways_are are) in
-    let here : test split.member.host ≡ true = ap test (sym (host_is one split.member split.at)) ∙ passes in
-    record {
-      before = split.first;
-      member = split.member;
-      after = split.rest;
-      split = split.split;
-      place_is = place_is ∙ split.place;
-      reached = one_reached event (λ member. test member.host) course split.first split.member split.rest once split.split here;
-      part = one_part event (λ member. test member.host) course split.first split.member split.rest once split.split here;
-    }
-
-apart_at : (gateways : List NamedGateway) (members : List Member) → AreMembersAt gateways members → AreApart (map host_of gateways) → AreApart (map host_at members)
-apart_at gateways members are apart = subst AreApart (hosts_are gateways members are) apart
-
--- the gateway of a name
-pub named_one : (event : GatewayEvent) (name : List ℕ) (gateways : List NamedGateway) (course : Course) (place : ℕ) → AreMembersAt gateways course.members
-    → AreApart (map host_of gateways) → IsPlaceOf (λ one. same_name name one.name) gateways place → IsForOne event (has_name name) course place
-named_one event name gateways course place are apart placed =
-    for_one event (λ host. same_name name host.name) gateways course place are placed
-    (once_by_name course.members name (apart_at gateways course.members are apart))
-
--- the gateway at an endpoint
-pub addressed_one : (event : GatewayEvent) (endpoint : EndpointValue) (gateways : List NamedGateway) (course : Course) (place : ℕ) → AreMembersAt gateways course.members
-    → AreApart (map host_of gateways) → All (λ host. HasOwnEndpoint host.peer) (map host_of gateways)
-    → IsPlaceOf (λ one. is_endpoint endpoint (endpoint_of one.peer)) gateways place → IsForOne event (is_at endpoint) course place
-addressed_one event endpoint gateways course place are apart own placed =
-    for_one event (λ host. is_endpoint endpoint (endpoint_of host.peer)) gateways course place are placed
-    (once_by_endpoint course.members endpoint (apart_at gateways course.members are apart)
-    (subst (All (λ host. HasOwnEndpoint host.peer)) (hosts_are gateways course.members are) own))
-
--- no gateway is at the endpoint
-pub none_addressed : (endpoint : EndpointValue) (gateways : List NamedGateway) (course : Course) → AreMembersAt gateways course.members
-    → All (λ one. is_endpoint endpoint (endpoint_of one.peer) ≡ false) gateways → NonePasses (is_at endpoint) course.members
-none_addressed endpoint gateways course are none =
-    none_at (λ host. is_endpoint endpoint (endpoint_of host.peer)) gateways course.members are
-    (recursion_from_All (λ one. is_endpoint endpoint (endpoint_of one.peer) ≡ false) gateways none)
+    -- the gateway at an endpoint
+    pub addressed_one : (event : GatewayEvent) (endpoint : EndpointValue) → All (λ host. HasOwnEndpoint host.peer) (map host_of gateways)
+        → HoldsAt (λ one. is_endpoint endpoint (endpoint_of one.peer) ≡ true) gateways place → IsForOne event (is_at endpoint) course place
+    addressed_one event endpoint own passes =
+        let same = hosts_are gateways course.members are in
+        one_at event (λ host. is_endpoint endpoint (endpoint_of host.peer)) passes
+        (once_by_endpoint course.members (subst AreApart same apart) endpoint (subst (All (λ host. HasOwnEndpoint host.peer)) same own))
 
 -- a gateway of the name is found where there is one
 pub some_named : (name : List ℕ) (gateways : List NamedGateway) (host : Host) (found : Option ℕ) → Contains (map host_of gateways) host → host.name ≡ name

@@ -1,5 +1,5 @@
 -- The reports among the datagrams of one peer, where others send too.
-use Rattle.std.{proofs.{Common.{◌≡◌, Bool, true, false, cond, List, [], ◌∷◌, ◌++◌, map, reverse, flat_map, All, Option, None, refl, ap, ◌∙◌, append-nil}, lemmas.{Bool.{cond-false, cond-true}, List.{reverse-append, Concat.{flat_map-append}, Elements.{All-head, All-tail, filter_map-append}}}}, specs.List.{cons_option, filter, filter_map}}
+use Rattle.std.{proofs.{Common.{◌≡◌, Bool, true, false, cond, List, [], ◌∷◌, ◌++◌, map, reverse, flat_map, Option, None, refl, ap, ◌∙◌, append-nil}, lemmas.{Bool.{cond-false, cond-true}, List.{reverse-append, Elements.{filter_map-append}}}}, specs.List.{cons_option, filter, filter_map}}
 use Rattle.amt_values.specs.declared.peer.Peer.{Peer}
 use Rattle.gateway_machine.specs.{Answers.{same_peer}, declared.event.GatewayEvent.{GatewayEvent}}
 use Rattle.amt_pair.{specs.{Agreement.{report_from}, Schedule.{Member, Upward, run_of_member, upwards_on}, Sent.{Sent, SentReport, report_of, sent_on}}, proofs.{HeardQueries.{same_peer-itself}, Tunnel.{reports_on}}}
@@ -8,9 +8,9 @@ use Rattle.amt_pair.{specs.{Agreement.{report_from}, Schedule.{Member, Upward, r
 abbrev pub reports_from : Peer → List Upward → List SentReport
 reports_from peer up = reverse (filter_map (report_from peer) up)
 
--- the member is of another peer
-abbrev pub IsOther : Peer → Member → Type 0
-IsOther peer member = same_peer peer member.host.peer ≡ false
+-- the member is of the peer
+abbrev pub has_peer : Peer → Member → Bool
+has_peer peer member = same_peer peer member.host.peer
 
 -- datagrams of a peer
 abbrev pub upward_by : Peer → Sent → Upward
@@ -47,31 +47,34 @@ module _ (peer : Peer) (event : GatewayEvent) (reaches : Member → Bool) where
       first true = filter_map-append (report_from peer) (upwards_on event member) (flat_map (upwards_on event) (filter reaches members))
       first false = refl
 
-  none-others : (members : List Member) → All (IsOther peer) members → flat_map sent_of members ≡ []
-  none-others [] others = refl
-  none-others (member ∷ members) others =
-      ap (λ (first : List SentReport). first ++ flat_map sent_of members) (nothing (reaches member))
-      ∙ none-others members (All-tail (IsOther peer) member members others)
-    where
-      nothing : (reached : Bool) → cond reached (filter_map (report_from peer) (upwards_on event member)) [] ≡ []
-      nothing true = other-reports peer member.host.peer (sent_on member.host.settings (run_of_member member) event) (All-head (IsOther peer) member members others)
-      nothing false = refl
+  -- none by a member of another
+  sent_of-other : (member : Member) (reached : Bool) → has_peer peer member ≡ false → cond reached (filter_map (report_from peer) (upwards_on event member)) [] ≡ []
+  sent_of-other member true other = other-reports peer member.host.peer (sent_on member.host.settings (run_of_member member) event) other
+  sent_of-other member false other = refl
 
-  -- the reports of the peer after the event, which reaches its member or doesn't
-  pub reports_from-event : (up : List Upward) (before after : List Member) (member : Member) (reached : Bool) → member.host.peer ≡ peer → reaches member ≡ reached
-      → All (IsOther peer) before → All (IsOther peer) after
-      → reports_from peer (up ++ flat_map (upwards_on event) (filter reaches (before ++ member ∷ after)))
+  -- so they are those of the peer's members
+  sent_by-own : (members : List Member) → flat_map sent_of members ≡ flat_map sent_of (filter (has_peer peer) members)
+  sent_by-own [] = refl
+  sent_by-own (member ∷ members) = first (has_peer peer member) refl (sent_by-own members)
+    where
+      first : (own : Bool) → has_peer peer member ≡ own → flat_map sent_of members ≡ flat_map sent_of (filter (has_peer peer) members)
+          → sent_of member ++ flat_map sent_of members ≡ flat_map sent_of (cond own (member ∷ filter (has_peer peer) members) (filter (has_peer peer) members))
+      first true own rest = ap (λ (more : List SentReport). sent_of member ++ more) rest
+      first false other rest = ap (λ (none : List SentReport). none ++ flat_map sent_of members) (sent_of-other member (reaches member) other) ∙ rest
+
+  -- the reports of the peer after the event, which reaches its one member or doesn't
+  pub reports_from-event : (up : List Upward) (members : List Member) (member : Member) (reached : Bool) → filter (has_peer peer) members ≡ member ∷ [] → member.host.peer ≡ peer
+      → reaches member ≡ reached
+      → reports_from peer (up ++ flat_map (upwards_on event) (filter reaches members))
       ≡ cond reached (reports_on member.host.settings (run_of_member member) event) [] ++ reports_from peer up
-  reports_from-event up before after member reached own is first rest =
+  reports_from-event up members member reached alone own is =
       let sent = sent_on member.host.settings (run_of_member member) event in
       let found =
-      sent_by (before ++ member ∷ after)
-      ∙ flat_map-append sent_of before (member ∷ after)
-      ∙ (λ i. none-others before first i ++ (sent_of member ++ none-others after rest i))
+      sent_by members ∙ sent_by-own members ∙ ap (flat_map sent_of) alone
       ∙ append-nil (sent_of member)
       ∙ (λ i. cond (is i) (filter_map (report_from peer) (map (upward_by (own i)) sent)) [])
       ∙ ap (λ (reports : List SentReport). cond reached reports []) (own-reports peer sent) in
-      let all = flat_map (upwards_on event) (filter reaches (before ++ member ∷ after)) in
+      let all = flat_map (upwards_on event) (filter reaches members) in
       ap (λ (reports : List SentReport). reverse reports) (filter_map-append (report_from peer) up all)
       ∙ reverse-append (filter_map (report_from peer) up) (filter_map (report_from peer) all)
       ∙ ap (λ (reports : List SentReport). reverse reports ++ reports_from peer up) found

@@ -1,6 +1,6 @@
 -- What the entry that a datagram of a gateway makes at the relay is for one gateway.
-use Rattle.std.{proofs.{Common.{◌≡◌, ℕ, ◌+◌, eqb, eqb-true, ◌≤◌, Bool, true, false, cond, List, [], ◌∷◌, length, All, Contains, Some, None, Result, Ok, refl, sym, ap, subst, ◌∙◌, arith, inl, inr}, lemmas.{Bool.{and_parts, cases_Bool, cond-false, cond-true}, List.Elements.{All-head, All-tail}, Map.Views.{tells_apart}}}, specs.Ordering.{eq_by_cmp}}
-use Rattle.amt_values.{specs.{Endpoint.{endpoint_of}, EndpointValue.{EndpointValue}, Group.{is_forwardable}, Order.{ip_order}, declared.{mac.Mac48.{Mac48}, peer.Peer.{Peer}}}, proofs.{OnePeer.{one_peer}, Orders.{endpoint_order-exact, ip_order-exact}}}
+use Rattle.std.{proofs.{Common.{◌≡◌, ℕ, ◌+◌, ◌≤◌, Bool, true, false, cond, List, [], length, All, Contains, Some, None, Result, Ok, refl, sym, ap, subst, ◌∙◌, arith, inl, inr}, lemmas.{Bool.{cases_Bool, cond-false, cond-true, false_from_ne_true}, Map.Views.{tells_apart}}}}
+use Rattle.amt_values.{specs.{Endpoint.{endpoint_of}, EndpointValue.{EndpointValue}, Group.{is_forwardable}, declared.{mac.Mac48.{Mac48}, peer.Peer.{Peer}}}, proofs.{OnePeer.{one_peer}, Orders.{endpoint_order-exact}}}
 use Rattle.amt_messages.specs.{Layout.{spelling_of}, Refusal.{message_of}, declared.message.Message.{Message, TheVariants.{Update, Teardown}}}
 use Rattle.response_mac.specs.declared.secret.Secret.{Secret}
 use Rattle.source_filter.specs.declared.record.Record.{Record}
@@ -8,16 +8,9 @@ use Rattle.endpoint_membership.specs.{EndpointGroup.{same_endpoint}, Log.{brough
 use Rattle.gateway_machine.specs.{Answers.{same_peer}, Timing.{farewell_ms}}
 use Rattle.relay_machine.specs.{Accepted.{entry_of}, Events.{now_of}, Updates.{forwardable_records, report_in}, declared.{event.Event.{Event}, outcome.Unlawful.{Unlawful}, settings.Settings.{Settings}}}
 use Rattle.amt_pair.specs.{Agreement.{report_from}, Entries.{is_change_of}, Schedule.{Upward, delivery_up}, Sent.{Sent, SentReport, report_by as report_as, report_of, report_with}, Setup.{IsPeer}}
-use Rattle.amt_pair.proofs.{Alone.{is_false}, HeardQueries.{same_peer-itself}, RelaySteps.{IsTornDown, IsUpdated, datagram-entry}, SpelledKinds.{same-kind, update-inner}, TunnelEntries.{IsMadeBy, IsPrompt, made-cleared, made-other, made-reported}, TunnelReports.{IsForwarded}, Upwards.{IsUpward}}
+use Rattle.amt_pair.proofs.{Alone.{filter_every}, HeardQueries.{same_peer-is, same_peer-itself}, RelaySteps.{IsTornDown, IsUpdated, datagram-entry}, SpelledKinds.{same-kind, update-inner}, TunnelEntries.{IsMadeBy, IsPrompt, made-cleared, made-other, made-reported}, TunnelReports.{IsForwarded}, Upwards.{IsUpward}}
 
--- ---- peers and endpoints that are told to be one are one
-
-pub same_peer-is : (one other : Peer) → same_peer one other ≡ true → one ≡ other
-same_peer-is one other same =
-    let parts = and_parts (eq_by_cmp ip_order one.ip other.ip) (eqb one.port other.port) same in
-    let ip : one.ip ≡ other.ip = tells_apart ip_order-exact one.ip other.ip parts.0 in
-    let port : one.port ≡ other.port = eqb-true one.port other.port parts.1 in
-    λ i. record { ip = ip i; port = port i }
+-- endpoints that are told to be one are one
 
 same_endpoint-is : (one other : EndpointValue) → same_endpoint one other ≡ true → one ≡ other
 same_endpoint-is one other same = tells_apart endpoint_order-exact one other same
@@ -48,16 +41,6 @@ pub record IsEntryOf (peer : Peer) (endpoint : EndpointValue) (sent : List SentR
   pub made : IsMadeBy endpoint sent change (report_from peer upward)
   pub early : brought change ≤ now
   pub prompt : (upward.from ≡ peer → now ≤ upward.sent.exchange.moment + 60000) → IsPrompt (report_from peer upward) now
-
-kept-by : (test : Bool) (first : Record) (kept more : List Record) → test ≡ true → kept ≡ more → cond test (first ∷ kept) kept ≡ first ∷ more
-kept-by true first kept more passes same = ap (λ (rest : List Record). first ∷ rest) same
-kept-by false first kept more passes same = absurd cc
-
--- nothing is skipped of records on groups that packets are forwarded to
-forwardable-all : (records : List Record) → All IsForwarded records → forwardable_records records ≡ records
-forwardable-all [] all = refl
-forwardable-all (first ∷ more) all =
-    kept-by (is_forwardable first.group) first (forwardable_records more) more (All-head IsForwarded first more all) (forwardable-all more (All-tail IsForwarded first more all))
 
 module _ (peer : Peer) (endpoint : EndpointValue) (peer_is : IsPeer peer) (own : endpoint_of peer ≡ Some endpoint) (upward : Upward) (is_upward : IsUpward upward)
     (sent : List SentReport) (now : ℕ) (change : Change) where
@@ -91,7 +74,7 @@ module _ (peer : Peer) (endpoint : EndpointValue) (peer_is : IsPeer peer) (own :
             let source_is : updated.source ≡ endpoint = cc in
             let is : change ≡ Reported endpoint updated.records now =
             updated.is ∙ ap (λ (one : EndpointValue). Reported one (forwardable_records updated.records) now) source_is
-            ∙ ap (λ (records : List Record). Reported endpoint records now) (forwardable-all updated.records facts.1) in
+            ∙ ap (λ (records : List Record). Reported endpoint records now) (filter_every (λ one. is_forwardable one.group) updated.records facts.1) in
             record {
               made = subst (IsMadeBy endpoint sent change) (sym found)
                   (subst (λ (one : Change). IsMadeBy endpoint sent one (Some report)) (sym is) (made-reported endpoint sent report now facts.0));
@@ -102,7 +85,7 @@ module _ (peer : Peer) (endpoint : EndpointValue) (peer_is : IsPeer peer) (own :
           made = subst (IsMadeBy endpoint sent change) (sym none)
               (made-other endpoint sent change
               (ap (is_change_of endpoint) updated.is
-              ∙ is_false (same_endpoint endpoint updated.source) (λ same. let one = endpoint-own updated.source updated.found_is same in cc)));
+              ∙ false_from_ne_true (same_endpoint endpoint updated.source) (λ same. let one = endpoint-own updated.source updated.found_is same in cc)));
           early = early;
           prompt = λ in_time. subst (λ by. IsPrompt by now) (sym none) tt;
         }

@@ -1,10 +1,10 @@
 -- The addresses of the records of a full report, and of those of a change.
-use Rattle.std.{proofs.{Common.{◌≡◌, ℕ, ◌/◌, ◌^◌, true, List, [], ◌∷◌, arith}, lemmas.{Bool.{and_parts, eqb-true}, List.Elements.{All-nil}}}, specs.List.{All, flat_map}}
+use Rattle.std.{proofs.{Common.{◌≡◌, ℕ, ◌/◌, ◌^◌, true, List, [], arith}, lemmas.{Bool.{and_parts, eqb-true}, List.Elements.{All-nil}}}, specs.List.{All, flat_map}}
 use Rattle.amt_values.specs.{Address.{IsAddress}, Group.{is_forwardable}, declared.address.Ip.{Ip, TheVariants.{V4, V6}}}
 use Rattle.source_filter.specs.{Changes.{changes_on}, declared.record.{Record.{Record}, RecordKind.{RecordKind, TheVariants.{ToIn}}}}
 use Rattle.group_records.specs.{Written.{FitsOctets, HasFittingAddresses, IsOfFamily, is_of_family}, declared.family.Family.{Family}}
 use Rattle.socket_merge.{specs.{Changes.{change_records}, FullReport.{full_on, full_report_of, groups_of, is_recent, state_kind}, History.{AcceptedCall, groups_opened, open_sockets}, Interface.{filters_on, interface, is_wanted, left_at}}, proofs.{Changed.{All-changes_by}, Reports.{All-said, all_by}, Wanted.{All-merged}}}
-use Rattle.amt_pair.proofs.{AcceptedCalls.{AreAccepted}, InterfaceFilters.{filters-of}, OpenSockets.{HaveFilters, IsGroupOf, groups-of}}
+use Rattle.amt_pair.proofs.{Histories.{IsGroupOf, IsHistoryOf}, InterfaceFilters.{filters-of}}
 
 -- the record may stand in a report of the family
 pub record MayStand (family : Family) (group_record : Record) : Type 0 where
@@ -39,38 +39,32 @@ module _ (family : Family) where
     fit = record { group = forwarded-fits group is.forwarded; sources = λ k source below. (all k source below).1 };
   }
 
-  module _ (history : List AcceptedCall) (accepted : AreAccepted family history) where
+  module _ (history : List AcceptedCall) (is : IsHistoryOf family history) where
     -- what holds of the records of each group of the family holds of all
     All-groups : (P : Record → Type 0) (f : Ip → List Record) → ((group : Ip) → IsGroupOf family group → All P (f group)) → All P (flat_map f (groups_of family history))
-    All-groups P f each =
-        All-said P (IsGroupOf family) family f (groups_opened history) (groups-of family history accepted) (λ group is own. each group is)
+    All-groups P f each = All-said P (IsGroupOf family) family f (groups_opened history) is.groups (λ group own of. each group own)
 
     -- the sources of a group's filter are such
-    sources-of : HaveFilters history → (group : Ip) → All IsSourceOf (interface history group).sources
-    sources-of filters group =
+    sources-of : (group : Ip) → All IsSourceOf (interface history group).sources
+    sources-of group =
         All-merged IsSourceOf (filters_on group (open_sockets history)) (λ k filter below k' source below'.
-        let is = filters-of family history accepted filters group k filter below in
-        (is.own k' source below', address-fits _ (is.is.addresses k' source below')))
+        let own = filters-of family history is group k filter below in (own.own k' source below', address-fits _ (own.is.addresses k' source below')))
 
--- the records of a full report may stand in one
-pub full-may_stand : (family : Family) (history : List AcceptedCall) (at keep : ℕ) → AreAccepted family history → HaveFilters history
-    → All (MayStand family) (full_report_of family history at keep)
-unfolding full_report_of
-full-may_stand family history at keep accepted filters =
-    All-groups family history accepted (MayStand family) (full_on history at keep) (λ group is.
-    let filter = interface history group in
-    all_by (MayStand family) (is_wanted history group) (is_recent at keep (left_at history group)) group filter
-    (may-stand family group (state_kind filter.mode) filter.sources is (sources-of family history accepted filters group))
-    (may-stand family group ToIn [] is (All-nil (IsSourceOf family))))
+  -- the records of a full report may stand in one
+  pub full-may_stand : (history : List AcceptedCall) (at keep : ℕ) → IsHistoryOf family history → All (MayStand family) (full_report_of family history at keep)
+  unfolding full_report_of
+  full-may_stand history at keep is =
+      All-groups history is (MayStand family) (full_on history at keep) (λ group own.
+      let filter = interface history group in
+      all_by (MayStand family) (is_wanted history group) (is_recent at keep (left_at history group)) group filter
+      (may-stand group (state_kind filter.mode) filter.sources own (sources-of history is group)) (may-stand group ToIn [] own (All-nil IsSourceOf)))
 
--- and so may those of a change
-pub changed-may_stand : (family : Family) (newest : AcceptedCall) (older : List AcceptedCall) → AreAccepted family (newest ∷ older) → HaveFilters (newest ∷ older)
-    → All (MayStand family) (change_records family older (newest ∷ older))
-unfolding change_records
-changed-may_stand family newest older accepted filters =
-    All-groups family (newest ∷ older) accepted (MayStand family) (λ group. changes_on (interface older group) (interface (newest ∷ older) group) group) (λ group is.
-    let before = interface older group in
-    let after = interface (newest ∷ older) group in
-    All-changes_by (MayStand family) group (IsSourceOf family) (λ kind sources all. may-stand family group kind sources is all)
-    before.mode after.mode before.sources after.sources (sources-of family older accepted.1 filters.1 group)
-    (sources-of family (newest ∷ older) accepted filters group))
+  -- and so may those of a change
+  pub changed-may_stand : (newer older : List AcceptedCall) → IsHistoryOf family newer → IsHistoryOf family older → All (MayStand family) (change_records family older newer)
+  unfolding change_records
+  changed-may_stand newer older now then =
+      All-groups newer now (MayStand family) (λ group. changes_on (interface older group) (interface newer group) group) (λ group own.
+      let before = interface older group in
+      let after = interface newer group in
+      All-changes_by (MayStand family) group IsSourceOf (λ kind sources all. may-stand group kind sources own all)
+      before.mode after.mode before.sources after.sources (sources-of older then group) (sources-of newer now group))

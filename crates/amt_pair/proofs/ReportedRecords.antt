@@ -1,11 +1,11 @@
 -- The records of a full report, and those of a change, by group.
-use Rattle.std.{proofs.{Common.{◌≡◌, ◌≢◌, ℕ, ◌&&◌, Bool, false, List, [], ◌∷◌, ◌++◌, refl, sym, ap, ◌∙◌, append-nil, inl, inr}, lemmas.{Bool.{and_cases, cond-false, cond-true, false_from_ne_true, or_parts}, Cmp.{eq_by_cmp_equiv}, List.Elements.{All-head, All-tail, filter-append}}}, specs.List.{All, flat_map}}
+use Rattle.std.{proofs.{Common.{◌≡◌, ◌≢◌, ℕ, ◌&&◌, Bool, false, List, [], ◌∷◌, ◌++◌, refl, sym, ap, ◌∙◌, append-nil, inl, inr}, lemmas.{Bool.{and_cases, false_from_ne_true, or_parts}, Cmp.{eq_by_cmp_equiv}, List.Elements.{filter-append}}}, specs.List.{All, flat_map}}
 use Rattle.amt_values.{specs.{Order.{ip_order}, declared.address.Ip.{Ip}, Ascending.{IsAscending, ascending, has}}, proofs.{Orders.{ip_order-exact, ip_order-total}, AscendingLaws.{IsAscending-ascending, IsAscending-filter, has-ascending, has-filter}}}
-use Rattle.source_filter.specs.{Changes.{changes_on}, Filter.{FilterValue}, declared.record.Record.{Record}}
+use Rattle.source_filter.{specs.{Changes.{changes_on}, Filter.{FilterValue}, declared.record.Record.{Record}}, proofs.AppliedChanges.{changes-applied}}
 use Rattle.group_records.specs.{Written.{is_of_family}, declared.family.Family.{Family}}
 use Rattle.endpoint_membership.specs.Log.{on_group}
-use Rattle.socket_merge.{specs.{Changes.{change_records}, FullReport.{farewell, full_on, full_report_of, groups_of, is_recent, states}, History.{AcceptedCall, groups_opened}, Interface.{interface, is_wanted, left_at, same_group}}, proofs.{ByGroup.{flat_map-same, never_left, unwanted}, Changed.{All-changes_by}, Reports.{all_by}, Wanted.{same_group-itself}}}
-use Rattle.amt_pair.proofs.{AcceptedCalls.{AreAccepted}, InterfaceFilters.{changes-itself, interface-ascends, interface-unopened, same-filter, unopened-before}, KeptCalls.{has-such}, MadeGood.{changes-none, unsaid}, OpenSockets.{HaveFilters, IsGroupOf, groups-of}, Tunnel.{IsChanged, IsFull}}
+use Rattle.socket_merge.{specs.{Changes.{change_records}, FullReport.{farewell, full_on, full_report_of, groups_of, is_recent, states}, History.{AcceptedCall, groups_opened}, Interface.{interface, is_wanted, left_at, same_group}}, proofs.{ByGroup.{flat_map-same, never_left, unwanted}, Changed.{All-changes_by}, Reports.{all_by}, ShortChanges.{changes-itself}, Wanted.{same_group-itself}}}
+use Rattle.amt_pair.proofs.{Alone.{filter_every, filter_none}, Histories.{IsGroupOf, IsHistoryOf, has-such}, InterfaceFilters.{interface-ascends, interface-unopened, unopened-before}, MadeGood.{changes-none, unsaid}, Tunnel.{IsChanged, IsFull}}
 
 -- ---- records by group
 
@@ -15,16 +15,10 @@ IsOn group group_record = group_record.group ≡ group
 
 -- the records of a group are all of those on it
 on-own : (group : Ip) (records : List Record) → All (IsOn group) records → on_group group records ≡ records
-on-own group [] all = refl
-on-own group (first ∷ more) all =
-    cond-true (same_group group first.group) (first ∷ on_group group more) (on_group group more) (ap (same_group group) (All-head (IsOn group) first more all) ∙ same_group-itself group)
-    ∙ ap (λ (rest : List Record). first ∷ rest) (on-own group more (All-tail (IsOn group) first more all))
+on-own group records all = filter_every (λ one. same_group group one.group) records (λ k one below. ap (same_group group) (all k one below) ∙ same_group-itself group)
 
 on-other : (group other : Ip) (records : List Record) → same_group group other ≡ false → All (IsOn other) records → on_group group records ≡ []
-on-other group other [] apart all = refl
-on-other group other (first ∷ more) apart all =
-    cond-false (same_group group first.group) (first ∷ on_group group more) (on_group group more) (ap (same_group group) (All-head (IsOn other) first more all) ∙ apart)
-    ∙ on-other group other more apart (All-tail (IsOn other) first more all)
+on-other group other records apart all = filter_none (λ one. same_group group one.group) records (λ k one below. ap (same_group group) (all k one below) ∙ apart)
 
 on-flat_map : (group : Ip) (f : Ip → List Record) (groups : List Ip) → on_group group (flat_map f groups) ≡ flat_map (λ one. on_group group (f one)) groups
 on-flat_map group f [] = refl
@@ -49,30 +43,30 @@ module _ (family : Family) where
       IsAscending-filter ip_order (is_of_family family) (ascending ip_order (groups_opened history)) (IsAscending-ascending ip_order-total (groups_opened history))
 
   -- a group that isn't among those of the family was never opened
-  unopened-of : (history : List AcceptedCall) (group : Ip) → AreAccepted family history → has ip_order (groups_of family history) group ≡ false
+  unopened-of : (history : List AcceptedCall) (group : Ip) → IsHistoryOf family history → has ip_order (groups_of family history) group ≡ false
       → has ip_order (groups_opened history) group ≡ false
-  unopened-of history group accepted none =
+  unopened-of history group of none =
       let opened = groups_opened history in
       let listed = ap (λ (here : Bool). here && is_of_family family group) (sym (has-ascending ip_order-total opened group)) in
       let both = sym (has-filter ip_order-exact (is_of_family family) (ascending ip_order opened) group) ∙ none in
       elim (and_cases (has ip_order opened group) (is_of_family family group) (listed ∙ both)) [
         | inl unopened ↦ unopened
-        | inr other ↦ false_from_ne_true (has ip_order opened group) (λ is. let own = (has-such (IsGroupOf family) opened group (groups-of family history accepted) is).own in cc)
+        | inr other ↦ false_from_ne_true (has ip_order opened group) (λ is. let own = (has-such (IsGroupOf family) opened group of.groups is).own in cc)
       ]
 
   -- the records of a full report are those of each group
-  pub full-is : (history : List AcceptedCall) (at keep : ℕ) → AreAccepted family history → IsFull history at keep (full_report_of family history at keep)
+  pub full-is : (history : List AcceptedCall) (at keep : ℕ) → IsHistoryOf family history → IsFull history at keep (full_report_of family history at keep)
   unfolding full_report_of
-  full-is history at keep accepted group =
+  full-is history at keep of group =
       on-said (full_on history at keep) (groups_of family history) (groups-ascend history)
       (λ one. all_by (IsOn one) (is_wanted history one) (is_recent at keep (left_at history one)) one (interface history one) refl refl)
-      (λ one none. let unopened = unopened-of history one accepted none in
+      (λ one none. let unopened = unopened-of history one of none in
       unsaid (is_wanted history one) (is_recent at keep (left_at history one)) (states one (interface history one) ∷ []) (farewell one ∷ [])
       (unwanted history one unopened) (ap (is_recent at keep) (never_left history one unopened))) group
 
   -- ---- what a call changed
 
-  module _ (newest : AcceptedCall) (older : List AcceptedCall) (accepted : AreAccepted family (newest ∷ older)) where
+  module _ (newest : AcceptedCall) (older : List AcceptedCall) (of : IsHistoryOf family (newest ∷ older)) where
     -- the change records are those of each group
     pub changed-is : (group : Ip) → on_group group (change_records family older (newest ∷ older)) ≡ changes_on (interface older group) (interface (newest ∷ older) group) group
     unfolding change_records
@@ -82,15 +76,15 @@ module _ (family : Family) where
         let after = interface (newest ∷ older) one in
         All-changes_by (IsOn one) one (λ source. source ≡ source) (λ kind sources all. refl) before.mode after.mode before.sources after.sources
         (λ k source below. refl) (λ k source below. refl))
-        (λ one none. let unopened = unopened-of (newest ∷ older) one accepted none in
+        (λ one none. let unopened = unopened-of (newest ∷ older) one of none in
         changes-none (interface older one) (interface (newest ∷ older) one) one (interface-unopened older one (unopened-before newest older one unopened))
         (interface-unopened (newest ∷ older) one unopened)) group
 
     -- where there is none, no filter is another one
-    pub unchanged : HaveFilters (newest ∷ older) → change_records family older (newest ∷ older) ≡ [] → (group : Ip) → interface older group ≡ interface (newest ∷ older) group
-    unchanged filters none group =
-        same-filter (interface older group) (interface (newest ∷ older) group) group (interface-ascends family older accepted.1 filters.1 group)
-        (interface-ascends family (newest ∷ older) accepted filters group) (sym (changed-is group) ∙ ap (on_group group) none)
+    pub unchanged : IsHistoryOf family older → change_records family older (newest ∷ older) ≡ [] → (group : Ip) → interface older group ≡ interface (newest ∷ older) group
+    unchanged before none group =
+        changes-applied (interface older group) (interface (newest ∷ older) group) group (interface-ascends family older before group)
+        (interface-ascends family (newest ∷ older) of group) [] (sym (sym (changed-is group) ∙ ap (on_group group) none))
 
 some-said_by : (f : Ip → List Record) (group : Ip) (here rest : List Record) (first : Record) (more : List Record) → f group ≡ here
     → (rest ≡ first ∷ more → (one : Ip) × (f one ≢ [])) → here ++ rest ≡ first ∷ more → (one : Ip) × (f one ≢ [])
@@ -108,4 +102,4 @@ unfolding change_records
 changed-some family older newer first more some =
     let found = some-said (λ group. changes_on (interface older group) (interface newer group) group) (groups_of family newer) first more some in
     let group = found.0 in
-    (group, λ same. found.1 (ap (λ (filter : FilterValue). changes_on filter (interface newer group) group) same ∙ changes-itself (interface newer group) group))
+    (group, λ same. found.1 (ap (λ (filter : FilterValue). changes_on filter (interface newer group) group) same ∙ changes-itself (interface newer group).mode (interface newer group).sources group))

@@ -1,13 +1,13 @@
 -- The reports among what a gateway sends with an event.
-use Rattle.std.{proofs.{Common.{◌≡◌, ℕ, ◌≤◌, Bool, true, false, List, [], ◌∷◌, ◌++◌, map, reverse, Option, Some, None, Ok, refl, ap, ◌∙◌}, lemmas.List.{map-append, Elements.{filter_map-append}}}, specs.List.{All, filter_map}}
+use Rattle.std.{proofs.{Common.{◌≡◌, ℕ, ◌≤◌, Bool, true, false, List, [], ◌∷◌, ◌++◌, map, reverse, Option, Some, None, Ok, refl, ap, subst, ◌∙◌, arith}, lemmas.List.{map-append, Elements.{filter_map-append}}}, specs.List.{All, filter_map}}
 use Rattle.amt_values.specs.{EndpointValue.{EndpointValue}, declared.{mac.Mac48.{Mac48}, peer.Peer.{Peer}}}
 use Rattle.amt_messages.specs.declared.message.Message.TheVariants.{Request, Teardown}
 use Rattle.source_filter.specs.declared.record.Record.{Record}
 use Rattle.group_records.specs.{Written.{report_length}, declared.family.Family.{Family}}
-use Rattle.socket_merge.specs.{Changes.{change_records}, History.{AcceptedCall, latest}}
+use Rattle.socket_merge.{specs.{Changes.{change_records}, History.{AcceptedCall, latest, open_sockets}}, proofs.{Changed.{changes-are}, Reports.{full-within_raw}, ShortChanges.{short-changes}}}
 use Rattle.gateway_machine.specs.{Reports.{full_records, report_datagram, same_endpoint, teardown, teardown_by, teardown_if, update}, Sends.{Sending, to_relay}, Settings.{HasSourceOfFamily, family_of}, Timing.{farewell_ms}, declared.{exchange.{Exchange.{Exchange}, LastQuery.{LastQuery}}, settings.GatewaySettings.{GatewaySettings}}}
 use Rattle.relay_machine.specs.Updates.{report_in}
-use Rattle.amt_pair.{specs.Sent.{Sent, SentReport, report_of}, proofs.{AcceptedCalls.{AreAccepted}, KeptCalls.{short-change, short-full}, OpenSockets.{HaveFilters}, ReadReports.{report_in-report_datagram}, ReportedAddresses.{MayStand, changed-may_stand, full-may_stand}, Tunnel.{see, send}}}
+use Rattle.amt_pair.{specs.Sent.{Sent, SentReport, report_of}, proofs.{Histories.{IsHistoryOf}, ReadReports.{report_in-report_datagram}, ReportedAddresses.{MayStand, changed-may_stand, full-may_stand}, Tunnel.{see, send}}}
 
 -- the reports among these messages, in order, by the exchange and the socket calls after the event
 abbrev pub reports_in : Exchange → List AcceptedCall → List Sending → List SentReport
@@ -35,19 +35,24 @@ pub record MayBeSent (family : Family) (records : List Record) : Type 0 where
 -- ---- which records are sent
 
 -- the change records of a call
-pub changed-may_be_sent : (settings : GatewaySettings) (newest : AcceptedCall) (older : List AcceptedCall) → AreAccepted (family_of settings) (newest ∷ older) → HaveFilters (newest ∷ older)
-    → MayBeSent (family_of settings) (change_records (family_of settings) older (newest ∷ older))
-changed-may_be_sent settings newest older accepted filters =
-    record { each = changed-may_stand (family_of settings) newest older accepted filters; short = short-change (family_of settings) newest older accepted }
+pub changed-may_be_sent : (family : Family) (newest : AcceptedCall) (older : List AcceptedCall) → IsHistoryOf family (newest ∷ older) → IsHistoryOf family older
+    → MayBeSent family (change_records family older (newest ∷ older))
+changed-may_be_sent family newest older now then = record {
+  each = changed-may_stand family (newest ∷ older) older now then;
+  short = subst (λ (records : List Record). report_length family records ≤ 1400) (changes-are family older (newest ∷ []))
+      (short-changes family older (open_sockets (newest ∷ older)) then.lawful now.lawful.limits.sources (record { call = newest.call; made = refl }));
+}
 
--- the full records
-pub full-may_be_sent : (settings : GatewaySettings) (exchange : Exchange) (history : List AcceptedCall) → AreAccepted (family_of settings) history → HaveFilters history
-    → latest history ≤ exchange.moment → MayBeSent (family_of settings) (full_records settings exchange history)
-full-may_be_sent settings exchange history accepted filters early =
+-- the full records. A moment before the newest call is left out: farewells last at it of which the raw report
+-- has none
+pub full-may_be_sent : (settings : GatewaySettings) (exchange : Exchange) (history : List AcceptedCall) → IsHistoryOf (family_of settings) history → latest history ≤ exchange.moment
+    → MayBeSent (family_of settings) (full_records settings exchange history)
+full-may_be_sent settings exchange history is early =
+    let family = family_of settings in
     let keep = farewell_ms exchange.query in
     record {
-      each = full-may_stand (family_of settings) history exchange.moment keep accepted filters;
-      short = short-full (family_of settings) history exchange.moment keep accepted early;
+      each = full-may_stand family history exchange.moment keep is;
+      short = omega (arith, full-within_raw family history exchange.moment keep early, is.lawful.limits.octets family);
     }
 
 -- ---- what is read of an Update

@@ -1,11 +1,11 @@
 -- What a schedule shows of a gateway that was heard is told of its tunnel.
-use Rattle.std.{proofs.{Common.{◌≡◌, ℕ, max, cond, List, [], ◌∷◌, map, reverse, All, Contains, Option, Some, None, refl, sym, ap, subst, ◌∙◌, arith, inl, inr}, lemmas.{Bool.{cases_Bool, cond-false, cond-true}, List.{reverse-reverse, Elements.{All-contains}}}}, specs.List.{filter, filter_map}}
+use Rattle.std.{proofs.{Common.{◌≡◌, ℕ, max, cond, List, [], ◌∷◌, map, reverse, Contains, Option, Some, None, refl, sym, ap, subst, ◌∙◌, arith, inl, inr}, lemmas.{Bool.{cases_Bool, cond-false, cond-true}, List.{reverse-reverse}}}, specs.List.{filter, filter_map}}
 use Rattle.amt_values.specs.{EndpointValue.{EndpointValue}, declared.{address.Ip.{Ip}, peer.Peer.{Peer}}}
 use Rattle.endpoint_membership.specs.{GroupFilter.{records_admit}, Log.{brought, latest, live_chain}, declared.change.Change.{Change, TheVariants.{Reported}}}
 use Rattle.gateway_machine.specs.Laws.{last_of}
 use Rattle.relay_machine.{specs.{Accepted.{accepted_log}, Events.{now_of}, Settings.{membership_interval_ms}}, proofs.PublishedLog.{latest-accepted_log}}
 use Rattle.amt_pair.{specs.{Agreement.{IsHeard, IsLastEntry, full_reports, is_of_endpoint, relay_admits, report_from}, Schedule.{Entry, Member, Upward, course_of}, Sent.{SentReport}, Setup.{PairSetup}, declared.event.PairEvent.{PairEvent}}, proofs.{Courses.{logged-after}}}
-use Rattle.amt_pair.proofs.{Follows.{Stands, changes_made-for, made_for, made_of, member_of, report_by, shown}, HeardQueries.{same_peer-itself}, Listed.{last-passing, middle-cases}, PeerReports.{IsOther, reports_from}, TunnelAgrees.{IsTold, admits_at}, TunnelEntries.{in_group, last_by, last_made}, TunnelReports.{latest_full}}
+use Rattle.amt_pair.proofs.{Follows.{Stands, changes_made-for, made_for, made_of, member_of, report_by, shown}, HeardQueries.{same_peer-itself}, Listed.{Contains-kept, first-is, last-passing, none-in}, PeerReports.{has_peer, reports_from}, TunnelAgrees.{IsTold, admits_at}, TunnelEntries.{in_group, last_by, last_made}, TunnelReports.{latest_full}}
 
 -- ---- the latest full report
 
@@ -56,19 +56,13 @@ last-told peer endpoint entries report at last =
 
 module _ (setup : PairSetup) (schedule : List PairEvent) (member : Member) (endpoint : EndpointValue) (InTime : Type 0)
     (among : Contains (course_of setup schedule).members member) (stands : Stands setup member.host endpoint InTime (now_of (course_of setup schedule).relay) (course_of setup schedule)) where
-  not-other : (members : List Member) → All (IsOther member.host.peer) members → Contains members member → ⊥
-  not-other members others in_list =
-      let other = All-contains (IsOther member.host.peer) members member others in_list in
-      let same = same_peer-itself member.host.peer in absurd cc
-
   -- the events are the member's own
   pub member-is : member_of member.host stands.events ≡ member
   member-is =
-      let placed = stands.placed in
-      elim (middle-cases placed.before placed.after (member_of member.host stands.events) member (subst (λ (all : List Member). Contains all member) placed.whole among)) [
-        | inl before ↦ absurd (not-other placed.before placed.others_before before)
-        | inr (inl same) ↦ same
-        | inr (inr later) ↦ absurd (not-other placed.after placed.others_after later)
+      let listed = Contains-kept (has_peer member.host.peer) (course_of setup schedule).members member among (same_peer-itself member.host.peer) in
+      elim (first-is (member_of member.host stands.events) member [] (subst (λ (all : List Member). Contains all member) stands.alone listed)) [
+        | inl same ↦ same
+        | inr none ↦ absurd (none-in member none)
       ]
 
   -- what is told of the tunnel

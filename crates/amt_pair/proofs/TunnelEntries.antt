@@ -1,5 +1,5 @@
 -- The entries that the reports of a tunnel made in the log of its relay.
-use Rattle.std.{proofs.{Common.{◌≡◌, ℕ, ◌+◌, ◌<◌, ◌≤◌, Bool, true, false, cond, if◌then◌else◌, List, [], ◌∷◌, ◌++◌, map, reverse, All, Contains, Option, Some, None, refl, sym, ap, subst, ◌∙◌, arith, inl, inr}, lemmas.{Bool.{cases_Bool, cond-false, cond-true, lt-ltb}, Cmp.{tied_itself}, List.{reverse-append, Elements.{All-cons, All-contains, All-head, All-nil, All-push, All-same, All-tail, Contains-append_right}}}}, specs.Ordering.{is_eq}}
+use Rattle.std.{proofs.{Common.{◌≡◌, ℕ, ◌+◌, ◌<◌, ◌≤◌, Bool, true, false, cond, if◌then◌else◌, List, [], ◌∷◌, ◌++◌, map, reverse, All, Contains, Option, Some, None, refl, sym, ap, subst, ◌∙◌, arith, inl, inr}, lemmas.{Bool.{cases_Bool, cond-false, cond-true, lt-ltb}, Cmp.{tied_itself}, List.{Elements.{All-cons, All-contains, All-nil, All-same, Contains-append_right}, Sorted.{All-permutation, IsPermutation-reverse}}}}, specs.Ordering.{is_eq}}
 use Rattle.amt_values.{specs.{EndpointValue.{EndpointValue}, declared.address.Ip.{Ip}}, proofs.Orders.{endpoint_order-total}}
 use Rattle.source_filter.specs.declared.record.Record.{Record}
 use Rattle.endpoint_membership.{specs.{EndpointGroup.{EndpointGroup, same_endpoint}, Log.{brought, latest, leaving, live_chain, on_group, records_at}, declared.change.Change.{Change, TheVariants.{Clear, Mark, Reported}}}, proofs.LiveChain.{live_chain-other}}
@@ -95,12 +95,6 @@ chain-newest : (lifetime : ℕ) (endpoint_group : EndpointGroup) (moment : ℕ) 
 chain-newest lifetime endpoint_group moment entry past one is recent =
     let live = lt-ltb moment (latest (entry ∷ past) + lifetime) recent in rw (is, live) refl
 
-leaving_turned : (records : List Record) → All IsLeaving records → All IsLeaving (reverse records)
-leaving_turned [] all = all
-leaving_turned (first ∷ more) all =
-    All-same IsLeaving (reverse (first ∷ more)) (reverse more ++ first ∷ []) (reverse-append (first ∷ []) more)
-    (All-push IsLeaving (reverse more) first (leaving_turned more (All-tail IsLeaving first more all)) (All-head IsLeaving first more all))
-
 -- ---- all entries, where deliveries may be in time
 
 module _ (InTime : Type 0) (endpoint : EndpointValue) where
@@ -162,7 +156,7 @@ module _ (InTime : Type 0) (endpoint : EndpointValue) where
     silent-by change (Some report) at made prompt recent =
         let said = All-contains (λ one. since < one.moment + keep → SayNothing group one.records) sent report quiet made.0 (omega arith) in
         All-same IsLeaving (records_at (in_group endpoint group) change) (reverse (on_group group report.records)) (made.1 group)
-        (leaving_turned (on_group group report.records) said)
+        (All-permutation IsLeaving (on_group group report.records) (reverse (on_group group report.records)) (IsPermutation-reverse (on_group group report.records)) said)
 
     -- where no report says anything of the group since so long, no entry that counts does
     pub silent-entries : (made : List Made) → AreMade sent made → IsSilentBack lifetime (in_group endpoint group) moment (changes_made made)

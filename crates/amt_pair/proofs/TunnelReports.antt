@@ -1,13 +1,13 @@
 -- What holds of the reports that a gateway sends, whatever its relay hears of them: the newest is a full one, and what
 -- older ones said is made good. Where a full report doesn't name a group, no report that was sent before it, while
 -- farewells last, says more of the group than that it is left.
-use Rattle.std.proofs.{Common.{◌≡◌, ℕ, ◌+◌, ◌<◌, ◌≤◌, ◌⊎◌, max, Bool, true, false, cond, if◌then◌else◌, ltb, List, [], ◌∷◌, All, Option, Some, None, refl, sym, ap, subst, ◌∙◌, arith, inl, inr}, lemmas.{Bool.{cases_Bool, cond-true, ltb-false, ltb-true}, List.Elements.{All-cons, All-head, All-nil, All-same, All-weaker}}}
+use Rattle.std.proofs.{Common.{◌≡◌, ℕ, ◌+◌, ◌<◌, ◌≤◌, ◌⊎◌, max, Bool, true, false, if◌then◌else◌, ltb, List, [], ◌∷◌, All, Option, Some, None, refl, sym, ap, subst, ◌∙◌, arith, inl, inr}, lemmas.{Bool.{cases_Bool, cond-true, false_from_ne_true, ltb-false, ltb-true}, List.Elements.{All-cons, All-head, All-nil, All-same, All-weaker}}}
 use Rattle.amt_values.specs.{Group.{is_forwardable}, declared.address.Ip.{Ip}}
 use Rattle.source_filter.specs.{Changes.{changes_on}, declared.mode.Mode.{Mode, TheVariants.{Include, Exclude}}, declared.record.{Record.{Record}, RecordKind.TheVariants.{ToIn}}}
 use Rattle.endpoint_membership.specs.Log.{on_group}
-use Rattle.socket_merge.specs.{FullReport.{farewell, full_on, is_recent, longest_farewell, state_kind, states}, History.{AcceptedCall, SocketCall, latest}, Interface.{interface, is_wanted, left_at}}
+use Rattle.socket_merge.specs.{FullReport.{longest_farewell, state_kind, states}, History.{AcceptedCall, SocketCall, latest}, Interface.{interface, is_wanted}}
 use Rattle.amt_pair.specs.{Sent.{SentReport}, Silence.{IsLeaving, SayNothing}}
-use Rattle.amt_pair.proofs.{Alone.{is_false}, MadeGood.{IsMadeGood, IsMadeGood-call, IsMadeGood-changes, IsMadeGood-full, IsMadeGood-same, full_on-changed, unnamed, unwanted-nothing}, Tunnel.{IsChanged, IsFull, Tunnel, called, keep_of, report_now, send}}
+use Rattle.amt_pair.proofs.{MadeGood.{IsMadeGood, IsMadeGood-call, IsMadeGood-changes, IsMadeGood-full, full_on-changed, unnamed, unwanted-nothing}, Tunnel.{IsChanged, IsFull, Tunnel, called, keep_of, report_now, send}}
 
 -- the record is on a group that packets are forwarded to
 abbrev pub IsForwarded : Record → Type 0
@@ -52,10 +52,6 @@ states_by : (mode : Mode) → state_kind mode ≡ ToIn → ⊥
 states_by Include is = absurd cc
 states_by Exclude is = absurd cc
 
-full_on-wanted : (history : List AcceptedCall) (at keep : ℕ) (group : Ip) → is_wanted history group ≡ true → full_on history at keep group ≡ states group (interface history group) ∷ []
-full_on-wanted history at keep group wanted =
-    cond-true (is_wanted history group) (states group (interface history group) ∷ []) (cond (is_recent at keep (left_at history group)) (farewell group ∷ []) []) wanted
-
 -- it isn't sent, and leaves the newest report so: a group that the report stated, and that a full report would not name
 -- now, was left when farewells no longer last from then
 IsCurrentSince-empty : (history : List AcceptedCall) (moment keep : ℕ) (report : SentReport) → IsFull history moment keep [] → keep ≤ longest_farewell → report.keep_ms ≡ keep
@@ -68,8 +64,8 @@ IsCurrentSince-empty history moment keep report empty short same good whole grou
           let within = ltb-true moment (report.moment + keep) recent in
           let leaves = good group moment keep none (omega arith) in
           let filter = interface report.history group in
-          let unwanted = is_false (is_wanted report.history group) (λ wanted.
-          let said = sym (whole group ∙ full_on-wanted report.history report.moment report.keep_ms group wanted) in
+          let unwanted = false_from_ne_true (is_wanted report.history group) (λ wanted.
+          let said = sym (whole group ∙ cond-true (is_wanted report.history group) (states group filter ∷ []) _ wanted) in
           states_by filter.mode (All-head IsLeaving (states group filter) [] (All-same IsLeaving (states group filter ∷ []) (on_group group report.records) said leaves)).kind) in
           inl (unwanted-nothing (interface history group) (unnamed history moment keep group none).0 ∙ sym (unwanted-nothing filter unwanted))
       | inr past ↦ let later = ltb-false moment (report.moment + keep) past in inr (omega arith)
@@ -177,7 +173,7 @@ module _ (OfRelay : Type 0) (lifetime : ℕ) where
       → (records ≡ [] → OfNewest (IsLatest OfRelay tunnel) tunnel.sent) → IsSettled tunnel → IsOrderly (send tunnel true records)
   orderly-full tunnel records whole forwarded on empty settled = record {
     settled = settled-sent tunnel true records
-        (λ group. IsMadeGood-same tunnel.history group tunnel.moment (full_on tunnel.history tunnel.moment (keep_of tunnel.lifetime) group) (on_group group records) (whole group)
+        (λ group. subst (IsMadeGood tunnel.history group tunnel.moment) (sym (whole group))
         (IsMadeGood-full tunnel.history tunnel.moment tunnel.moment (keep_of tunnel.lifetime) group))
         (λ _. whole) forwarded on settled;
     newest = newest-full tunnel records empty;
@@ -230,8 +226,7 @@ module _ (OfRelay : Type 0) (lifetime : ℕ) where
   orderly-changed tunnel call first more full on said whole changed these those orderly =
       let newest : AcceptedCall = record { moment = max (latest tunnel.history) tunnel.moment; call = call } in
       let later = called tunnel call in
-      let sent = settled-sent later false (first ∷ more) (λ group. IsMadeGood-same later.history group tunnel.moment
-      (changes_on (interface tunnel.history group) (interface later.history group) group) (on_group group (first ∷ more)) (said group)
+      let sent = settled-sent later false (first ∷ more) (λ group. subst (IsMadeGood later.history group tunnel.moment) (sym (said group))
       (IsMadeGood-changes newest tunnel.history group tunnel.moment (omega arith))) (λ wrong. absurd cc) these on (settled-called tunnel call orderly.settled) in
       orderly-full (send later false (first ∷ more)) full whole those on
       (λ none. absurd (full_on-changed newest tunnel.history tunnel.moment (keep_of tunnel.lifetime) changed.0 (omega arith) changed.1 (sym (whole changed.0) ∙ ap (on_group changed.0) none))) sent

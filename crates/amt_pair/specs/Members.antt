@@ -1,5 +1,5 @@
 -- What the gateways of a pair stand for, and the datagrams that are kept.
-use Rattle.std.specs.{Prelude.{◌≡◌, ◌≢◌, ◌≤◌, ℕ, Bool, true, List, [], ◌∷◌, ◌++◌, length, map, All}, List.{flat_map}}
+use Rattle.std.specs.{Prelude.{◌≡◌, ◌≤◌, ℕ, List, ◌++◌, drop, length, map, take, All}, List.{AllZip, flat_map}}
 use Rattle.amt_values.specs.declared.peer.Peer.{Peer}
 use Rattle.gateway_machine.specs.{Runs.{GatewayAt, settings_of}, Sends.{datagram_of}, declared.{event.GatewayEvent.TheVariants.{Moment as Passes}, step.PeerSend.{PeerSend}}}
 use Rattle.relay_machine.specs.declared.sends.OneSend.{OneSend}
@@ -17,10 +17,7 @@ pub record IsMemberAt (named : NamedGateway) (member : Member) : Type 0 where
 
 -- the same of each, in order
 abbrev pub AreMembersAt : List NamedGateway → List Member → Type 0
-AreMembersAt [] [] = Unit {0}
-AreMembersAt [] (member ∷ members) = ⊥
-AreMembersAt (named ∷ gateways) [] = ⊥
-AreMembersAt (named ∷ gateways) (member ∷ members) = IsMemberAt named member × AreMembersAt gateways members
+AreMembersAt gateways members = AllZip IsMemberAt gateways members
 
 -- a datagram to the relay as it is kept: who sent it, and its octets
 abbrev pub kept_datagram : Peer → PeerSend → UpDatagram
@@ -37,26 +34,12 @@ AreShort datagrams = All (λ datagram. length datagram.bytes ≤ 65535) datagram
 abbrev pub AreShortSends : List OneSend → Type 0
 AreShortSends sends = All (λ send. length send.bytes ≤ 65535) sends
 
--- at this place stands a gateway that passes the test
-abbrev pub IsPlaceOf : (NamedGateway → Bool) → List NamedGateway → ℕ → Type 0
-IsPlaceOf test gateways place =
-    (before : List NamedGateway) × (one : NamedGateway) × (after : List NamedGateway)
-    × (gateways ≡ before ++ one ∷ after) × (place ≡ length before) × (test one ≡ true)
-
 -- a moment has come to these gateways, and not to the rest: where they are, what they sent, and their parts
 pub record HasCome (at : ℕ) (reached rest : List Member) (gateways : List NamedGateway) (up_before up_after : List UpDatagram) (parts_before parts_after : List Part) : Type 0 where
   pub gateways_are : AreMembersAt gateways (map (with_gateway_event (Passes at)) reached ++ rest)
   pub sent : up_after ≡ up_before ++ map kept_upward (flat_map (upwards_on (Passes at)) reached)
   pub parts : parts_after ≡ parts_before ++ gateway_parts (Passes at) reached
 
--- it has come to all of these
-abbrev pub HasComeToAll : ℕ → List Member → List NamedGateway → List UpDatagram → List UpDatagram → List Part → List Part → Type 0
-HasComeToAll at members = HasCome at members []
-
--- it has come to the first of these, and not to all
-pub record HasComeToSome (at : ℕ) (members : List Member) (gateways : List NamedGateway) (up_before up_after : List UpDatagram) (parts_before parts_after : List Part) : Type 0 where
-  pub reached : List Member
-  pub rest : List Member
-  pub split : members ≡ reached ++ rest
-  pub some : rest ≢ []
-  pub come : HasCome at reached rest gateways up_before up_after parts_before parts_after
+-- it has come to so many of these
+abbrev pub HasComeTo : ℕ → ℕ → List Member → List NamedGateway → List UpDatagram → List UpDatagram → List Part → List Part → Type 0
+HasComeTo at count members = HasCome at (take count members) (drop count members)

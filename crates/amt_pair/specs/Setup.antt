@@ -1,5 +1,5 @@
 -- What a pair of both ends is set up with: a relay, and gateways that know it by its address.
-use Rattle.std.specs.{Prelude.{◌≡◌, ◌<◌, ◌^◌, ◌||◌, ℕ, Bool, List, ◌∷◌, ◌++◌, All, None}, List.{list_any}}
+use Rattle.std.specs.{Prelude.{◌≡◌, ◌≢◌, ◌<◌, ◌^◌, ◌||◌, ℕ, Bool, List, All, AllPairs, None}, List.{list_any}}
 use Rattle.amt_values.specs.{Address.{IsAddress}, declared.{address.Ip.{Ip}, peer.Peer.{Peer}}}
 use Rattle.response_mac.specs.declared.secret.Secret.{Secret}
 use Rattle.gateway_machine.specs.{Answers.{same_peer}, declared.settings.GatewaySettings.{GatewaySettings}, Settings.{HasSourceOfFamily}}
@@ -49,8 +49,8 @@ pub record IsHost (settings : Settings) (host : Host) : Type 0 where
 
 -- no two gateways have one name or one peer
 pub record AreApart (hosts : List Host) : Type 0 where
-  pub names : (before between after : List Host) (one other : Host) → hosts ≡ before ++ one ∷ (between ++ other ∷ after) → one.name ≡ other.name → ⊥
-  pub peers : (before between after : List Host) (one other : Host) → hosts ≡ before ++ one ∷ (between ++ other ∷ after) → one.peer ≡ other.peer → ⊥
+  pub names : AllPairs (λ one other. one.name ≢ other.name) hosts
+  pub peers : AllPairs (λ one other. one.peer ≢ other.peer) hosts
 
 -- a relay that may be set up, and gateways that are apart
 pub record IsLawfulSetup (setup : PairSetup) : Type 0 where

@@ -1,9 +1,9 @@
 //! The gateways of a pair.
 
-ghost use Rattle.std.specs.{Prelude.{◌≡◌, ◌<◌, ◌≤◌, ◌+◌, ◌^◌, ◌||◌, IsTrue, vec_len, vec_capacity, ◌++◌, ◌∷◌, [], false, true, length, slice_index, map, All, List, IfOk, OnOk, OnErr, IfSome, IfNone}, List.{list_any}};
+ghost use Rattle.std.specs.{Prelude.{◌≡◌, ◌<◌, ◌≤◌, ◌+◌, ◌^◌, ◌||◌, ℕ, HoldsAt, IsTrue, vec_len, vec_capacity, ◌++◌, ◌∷◌, [], false, true, get_or, length, map, set, slice_index, All, List, IfOk, OnOk, OnErr, IfSome, IfNone}, List.{list_any}};
 ghost use Rattle.amt_values.specs.Endpoint.{endpoint_of};
 ghost use Rattle.gateway_machine.specs.{Answers.{same_peer}, declared.event.GatewayEvent.TheVariants.{Moment as Passes}, Events.{IsEventOf}, Runs.{settings_of}};
-ghost use Rattle.amt_pair.specs.{declared.gateways.NamedGateway.{NamedGateway as NamedGatewayValue}, Parts.{gateway_part, gateway_parts}, Schedule.{Member, is_endpoint, upwards_on, with_gateway_event}, Members.{AreMembersAt, AreShort, HasComeToAll, HasComeToSome, IsMemberAt, IsPlaceOf, host_of, kept_upward}};
+ghost use Rattle.amt_pair.specs.{Parts.{gateway_part, gateway_parts}, Schedule.{Member, is_endpoint, upwards_on, with_gateway_event}, Members.{AreMembersAt, AreShort, HasCome, HasComeTo, IsMemberAt, host_of, kept_upward}};
 ghost use Rattle.socket_merge.specs.History.{same_name};
 
 use crate::datagrams::{UpDatagrams, datagrams_from};
@@ -116,7 +116,8 @@ impl Gateways {
 
     /// The place of the first gateway of this name.
     pub fn place_of_name(&self, name: &[u8]) -> Option<usize>
-        ensures found { IfSome result (IsPlaceOf (λ one. same_name name.now one.name) self.now) }
+        ensures within { IfSome result (λ place. place < length self.now) }
+        ensures found { IfSome result (HoldsAt (λ one. same_name name.now one.name ≡ true) self.now) }
         ensures none { IfNone result (All (λ one. same_name name.now one.name ≡ false) self.now) }
     {
         self.gateways.iter().position(|one| one.has_name(name))
@@ -124,7 +125,8 @@ impl Gateways {
 
     /// The place of the first gateway at this endpoint.
     pub fn place_of_endpoint(&self, endpoint: &Endpoint) -> Option<usize>
-        ensures found { IfSome result (IsPlaceOf (λ one. is_endpoint endpoint.now (endpoint_of one.peer)) self.now) }
+        ensures within { IfSome result (λ place. place < length self.now) }
+        ensures found { IfSome result (HoldsAt (λ one. is_endpoint endpoint.now (endpoint_of one.peer) ≡ true) self.now) }
         ensures none { IfNone result (All (λ one. is_endpoint endpoint.now (endpoint_of one.peer) ≡ false) self.now) }
     {
         self.gateways.iter().position(|one| one.is_at(endpoint))
@@ -146,18 +148,16 @@ impl Gateways {
         up: &mut UpDatagrams,
     ) -> Result<Part, AllocError>
         requires place { place < length self.old }
-        requires event { (before after : List NamedGatewayValue) (one : NamedGatewayValue)
-            → self.old ≡ before ++ one ∷ after → place ≡ length before
-            → IsEventOf (settings_of one.gateway) event.now }
+        requires event { HoldsAt (λ one. IsEventOf (settings_of one.gateway) event.now) self.old place }
         requires short { AreShort up.old }
-        ensures part { (before after : List Member) (member : Member)
-            → AreMembersAt self.old (before ++ member ∷ after) → place ≡ length before
+        ensures part { (members : List Member) (member : Member) → AreMembersAt self.old members
+            → get_or members place member ≡ member
             → IfOk result (λ part. part ≡ gateway_part event.now member) }
-        ensures next { (before after : List Member) (member : Member)
-            → AreMembersAt self.old (before ++ member ∷ after) → place ≡ length before
-            → IfOk result (λ _. AreMembersAt self.new (before ++ with_gateway_event event.now member ∷ after)) }
-        ensures sent { (before after : List Member) (member : Member)
-            → AreMembersAt self.old (before ++ member ∷ after) → place ≡ length before
+        ensures next { (members : List Member) (member : Member) → AreMembersAt self.old members
+            → get_or members place member ≡ member
+            → IfOk result (λ _. AreMembersAt self.new (set members place (with_gateway_event event.now member))) }
+        ensures sent { (members : List Member) (member : Member) → AreMembersAt self.old members
+            → get_or members place member ≡ member
             → IfOk result (λ _. up.new ≡ up.old ++ map kept_upward (upwards_on event.now member)) }
         ensures hosts { map host_of self.new ≡ map host_of self.old }
         ensures same { OnErr result (self.new ≡ self.old) }
@@ -179,9 +179,10 @@ impl Gateways {
         requires room { vec_len parts.old + length self.old ≤ vec_capacity parts.old }
         requires short { AreShort up.old }
         ensures all { (members : List Member) → AreMembersAt self.old members → IsTrue result
-            → HasComeToAll at.now members self.new up.old up.new parts.old.items parts.new.items }
+            → HasCome at.now members [] self.new up.old up.new parts.old.items parts.new.items }
         ensures some { (members : List Member) → AreMembersAt self.old members → result ≡ false
-            → HasComeToSome at.now members self.new up.old up.new parts.old.items parts.new.items }
+            → (count : ℕ) × (count < length members)
+            × HasComeTo at.now count members self.new up.old up.new parts.old.items parts.new.items }
         ensures hosts { map host_of self.new ≡ map host_of self.old }
         ensures short { AreShort up.new }
     {
@@ -200,9 +201,10 @@ fn take_each(
     requires room { vec_len parts.old + length gateways.old ≤ vec_capacity parts.old }
     requires short { AreShort up.old }
     ensures all { (members : List Member) → AreMembersAt gateways.old members → IsTrue result
-        → HasComeToAll at.now members gateways.new up.old up.new parts.old.items parts.new.items }
+        → HasCome at.now members [] gateways.new up.old up.new parts.old.items parts.new.items }
     ensures some { (members : List Member) → AreMembersAt gateways.old members → result ≡ false
-        → HasComeToSome at.now members gateways.new up.old up.new parts.old.items parts.new.items }
+        → (count : ℕ) × (count < length members)
+        × HasComeTo at.now count members gateways.new up.old up.new parts.old.items parts.new.items }
     ensures hosts { map host_of gateways.new ≡ map host_of gateways.old }
     ensures short { AreShort up.new }
 {

@@ -54,11 +54,11 @@ pub struct Pair {
 }
 
 impl Pair {
-    ghost use Rattle.std.specs.Prelude.{◌≡◌, ◌<◌, ◌↔◌, ◌++◌, ◌∷◌, [], true, false, List, Option, length, IfOk, IsErrOf, OnOk, OnErr};
+    ghost use Rattle.std.specs.Prelude.{◌≡◌, ◌<◌, ◌↔◌, ◌++◌, ◌∷◌, [], true, false, HoldsAt, List, Option, length, IfOk, IsErrOf, OnOk, OnErr};
     ghost use Rattle.amt_values.specs.{EndpointValue.{EndpointValue}, declared.address.Ip.{Ip as IpValue}};
     ghost use Rattle.endpoint_membership.specs.Admission.{rows_admit};
     ghost use Rattle.group_records.specs.Written.{is_of_family};
-    ghost use Rattle.gateway_machine.specs.Events.{IsEventOf};
+    ghost use Rattle.gateway_machine.specs.{Events.{IsEventOf}, Runs.{settings_of}};
     ghost use Rattle.relay_machine.specs.{Answers.{rows_after}, EventSize.{IsEvent}, Settings.{AreLawfulSettings}, declared.settings.Settings.{Settings as SettingsValue}};
     ghost use Rattle.response_mac.specs.declared.secret.Secret.{Secret as SecretValue};
     ghost use Rattle.socket_merge.specs.FullReport.{family_by};
@@ -259,14 +259,12 @@ impl Pair {
         place: usize,
         event: &GatewayEvent,
     ) -> Result<PairStep, AllocError>
-        requires place { place < length (hosts_of self.old) }
-        requires event { (before after : List Host) (host : Host)
-            → hosts_of self.old ≡ before ++ host ∷ after → place ≡ length before
-            → IsEventOf host.settings event.now }
-        ensures parts { ForMember self.old place (λ setup course before member after. IfOk result (λ step.
+        requires place { place < length self.old.gateways }
+        requires event { HoldsAt (λ one. IsEventOf (settings_of one.gateway) event.now) self.old.gateways place }
+        ensures parts { ForMember self.old place (λ setup course member. IfOk result (λ step.
             step.parts ≡ gateway_part event.now member ∷ [])) }
-        ensures next { ForMember self.old place (λ setup course before member after. IfOk result (λ _.
-            StandsFor self.new setup (with_member_at course event.now before member after))) }
+        ensures next { ForMember self.old place (λ setup course member. IfOk result (λ _.
+            StandsFor self.new setup (with_member_at course event.now place member))) }
         ensures all { IfOk result (λ step. step.starved ≡ false) }
         ensures up { IfOk result (λ step. step.up ≡ sent_up self.new) }
         ensures down { IfOk result (λ step. step.down ≡ sent_down self.new) }

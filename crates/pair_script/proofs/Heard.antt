@@ -1,5 +1,5 @@
 -- What has been said, one line more.
-use Rattle.std.{proofs.{Common.{◌≡◌, ℕ, List, [], ◌∷◌, ◌++◌, refl, sym, ap, subst, ◌∙◌, append-nil}, lemmas.List.Elements.{filter_map-append}}, specs.List.{AllByRecursion}}
+use Rattle.std.{proofs.{Common.{◌≡◌, ℕ, List, [], ◌∷◌, ◌++◌, Option, refl, sym, ap, subst, ◌∙◌, append-nil}, lemmas.List.Elements.{filter_map-append}}, specs.List.{AllByRecursion, filter_map}}
 use Rattle.amt_script.specs.{Reading.{IsAllowed}, declared.setting.Setting.{Setting}}
 use Rattle.script_lines.specs.{Reading.{FailsFirst}, declared.fault.LineError.{LineError}}
 use Rattle.pair_script.specs.{Fault.{FailsAfter, order_of_reasons}, Reading.{AreThose}, Script.{SaysAfter, gateway_in, gateways_in, item_in, items_in, setting_in, settings_in}, declared.{script.{PairGateway.{PairGateway}, PairItem.{PairItem}}, statement.PairStatement.{PairStatement}}}
@@ -27,40 +27,34 @@ allowed_more [] setting all here = (here, tt)
 allowed_more (first ∷ rest) setting all here = (all.0, allowed_more rest setting all.1 here)
 
 -- a statement of another kind adds none
-settings_same : (past : List PairStatement) (one : PairStatement) → settings_in (one ∷ []) ≡ [] → settings_in past ≡ settings_in (past ++ one ∷ [])
-settings_same past one none = sym (append-nil (settings_in past)) ∙ (ap (λ (s : List Setting). settings_in past ++ s) (sym none) ∙ sym (filter_map-append setting_in past (one ∷ [])))
-
-pub gateways_same : (past : List PairStatement) (one : PairStatement) → gateways_in (one ∷ []) ≡ [] → gateways_in past ≡ gateways_in (past ++ one ∷ [])
-gateways_same past one none = sym (append-nil (gateways_in past)) ∙ (ap (λ (s : List PairGateway). gateways_in past ++ s) (sym none) ∙ sym (filter_map-append gateway_in past (one ∷ [])))
-
-items_same : (past : List PairStatement) (one : PairStatement) → items_in (one ∷ []) ≡ [] → items_in past ≡ items_in (past ++ one ∷ [])
-items_same past one none = sym (append-nil (items_in past)) ∙ (ap (λ (s : List PairItem). items_in past ++ s) (sym none) ∙ sym (filter_map-append item_in past (one ∷ [])))
+pub none_more : {X : Type 0} (f : PairStatement → Option X) (past : List PairStatement) (one : PairStatement) → filter_map f (one ∷ []) ≡ [] → filter_map f past ≡ filter_map f (past ++ one ∷ [])
+none_more {X} f past one none = sym (append-nil (filter_map f past)) ∙ (ap (λ (more : List X). filter_map f past ++ more) (sym none) ∙ sym (filter_map-append f past (one ∷ [])))
 
 pub heard_setting : (given : List Setting) (gateways : List PairGateway) (items : List PairItem) (past : List PairStatement) (setting : Setting)
     → AreThose given gateways items past → IsAllowed setting → AreThose (given ++ setting ∷ []) gateways items (past ++ statements.Setting setting ∷ [])
 heard_setting given gateways items past setting those allowed = record {
   settings_are =
       ap (λ (g : List Setting). g ++ setting ∷ []) those.settings_are ∙ sym (filter_map-append setting_in past (statements.Setting setting ∷ []));
-  gateways_are = those.gateways_are ∙ gateways_same past (statements.Setting setting) refl;
-  items_are = those.items_are ∙ items_same past (statements.Setting setting) refl;
+  gateways_are = those.gateways_are ∙ none_more gateway_in past (statements.Setting setting) refl;
+  items_are = those.items_are ∙ none_more item_in past (statements.Setting setting) refl;
   allowed = allowed_more given setting those.allowed allowed;
 }
 
 pub heard_gateway : (given : List Setting) (gateways : List PairGateway) (items : List PairItem) (past : List PairStatement) (gateway : PairGateway)
     → AreThose given gateways items past → AreThose given (gateways ++ gateway ∷ []) items (past ++ statements.Gateway gateway ∷ [])
 heard_gateway given gateways items past gateway those = record {
-  settings_are = those.settings_are ∙ settings_same past (statements.Gateway gateway) refl;
+  settings_are = those.settings_are ∙ none_more setting_in past (statements.Gateway gateway) refl;
   gateways_are =
       ap (λ (g : List PairGateway). g ++ gateway ∷ []) those.gateways_are ∙ sym (filter_map-append gateway_in past (statements.Gateway gateway ∷ []));
-  items_are = those.items_are ∙ items_same past (statements.Gateway gateway) refl;
+  items_are = those.items_are ∙ none_more item_in past (statements.Gateway gateway) refl;
   allowed = those.allowed;
 }
 
 pub heard_item : (given : List Setting) (gateways : List PairGateway) (items : List PairItem) (past : List PairStatement) (item : PairItem)
     → AreThose given gateways items past → AreThose given gateways (items ++ item ∷ []) (past ++ statements.Item item ∷ [])
 heard_item given gateways items past item those = record {
-  settings_are = those.settings_are ∙ settings_same past (statements.Item item) refl;
-  gateways_are = those.gateways_are ∙ gateways_same past (statements.Item item) refl;
+  settings_are = those.settings_are ∙ none_more setting_in past (statements.Item item) refl;
+  gateways_are = those.gateways_are ∙ none_more gateway_in past (statements.Item item) refl;
   items_are = ap (λ (i : List PairItem). i ++ item ∷ []) those.items_are ∙ sym (filter_map-append item_in past (statements.Item item ∷ []));
   allowed = those.allowed;
 }

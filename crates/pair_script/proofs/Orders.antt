@@ -5,7 +5,7 @@ use Rattle.amt_script.specs.{Fault.{order_of_values as relay_order_of_values, or
 use Rattle.amt_script.specs.declared.kind.Key.TheVariants as keys
 use Rattle.gateway_script.specs.{Fault.{order_of_values as gateway_order_of_values}, Row.{shape_of}, SocketLine.{FailsAsCall}}
 use Rattle.group_records.specs.declared.family.Family.{Family}
-use Rattle.script_lines.specs.{Form.{Fails, Form, a_family, a_group, a_mode, a_moment, a_name, a_nonce, a_number, a_peer, a_secret, an_address, an_address4, an_address6, an_address_of, some_octets}, Reading.{FailsFirst}, Shape.{FailsIn, SomeFails}, declared.{fault.LineError.{LineError, TheVariants.{Bad, Memory}}, reason.Reason.{Reason}}}
+use Rattle.script_lines.specs.{Form.{Fails, Form, a_moment, a_secret, some_octets}, Reading.{FailsFirst}, Shape.{FailsIn, SomeFails}, declared.{fault.LineError.{LineError, TheVariants.{Bad, Memory}}, reason.Reason.{Reason}}}
 use Rattle.script_lines.specs.declared.reason.Reason.TheVariants as reasons
 use Rattle.pair_script.specs.Fault.{FailsAsNumber, FailsToCall, order_of_reasons, order_of_values}
 
@@ -16,17 +16,17 @@ on_after P [] rest other reason on first = on first
 on_after P (next ∷ before) rest other reason on (inl here) = inl here
 on_after P (next ∷ before) rest other reason on (inr later) = inr (later.0, on_after P before rest other reason on later.1)
 
-abbrev Never : Form → Reason → Type 0
+abbrev pub Never : Form → Reason → Type 0
 Never form reason = (text : List ℕ) → Fails form text reason → ⊥
 
 -- a field of the form fails for no reason that no relay's line has
-record IsRelayForm (form : Form) : Type 0 where
-  word : Never form reasons.Word
-  late : Never form reasons.Late
-  twice : Never form reasons.Twice
-  name : Never form reasons.Name
-  mode : Never form reasons.Mode
-  group : Never form reasons.Group
+pub record IsRelayForm (form : Form) : Type 0 where
+  pub word : Never form reasons.Word
+  pub late : Never form reasons.Late
+  pub twice : Never form reasons.Twice
+  pub name : Never form reasons.Name
+  pub mode : Never form reasons.Mode
+  pub group : Never form reasons.Group
 
 one_never : (form : Form) (values : List (List ℕ)) (reason : Reason) → Never form reason → SomeFails (form ∷ []) None values reason → ⊥
 one_never form [] reason never h = h
@@ -46,51 +46,42 @@ with_names : (P : Reason → Type 0) (reason : Reason) → WithNames P
     → First P (reasons.Range ∷ []) reason → First P (reasons.Name ∷ reasons.Mode ∷ reasons.Group ∷ reasons.Range ∷ []) reason
 with_names P reason none first = inr (none.0, inr (none.1, inr (none.2, first)))
 
-values_with_names : (P : Reason → Type 0) (reason : Reason) → WithNames P → First P relay_order_of_values reason → First P order_of_values reason
-values_with_names P reason none first =
-    on_after P (reasons.Count ∷ reasons.Number ∷ reasons.Hex ∷ reasons.Address ∷ reasons.Peer ∷ []) (reasons.Range ∷ [])
-    (reasons.Name ∷ reasons.Mode ∷ reasons.Group ∷ reasons.Range ∷ []) reason (with_names P reason none) first
+-- a line that fails for none of the first three reasons
+past_three : (P : Reason → Type 0) (reason : Reason) → (P reasons.Word → ⊥) → (P reasons.Late → ⊥) → (P reasons.Twice → ⊥) → First P order_of_values reason
+    → First P order_of_reasons reason
+past_three P reason word late twice first = inr (word, inr (late, inr (twice, first)))
+
+-- and for none of those that no relay's line has
+judged : (P : Reason → Type 0) (reason : Reason) → (P reasons.Word → ⊥) → (P reasons.Late → ⊥) → (P reasons.Twice → ⊥) → WithNames P → First P relay_order_of_values reason
+    → First P order_of_reasons reason
+judged P reason word late twice none first =
+    past_three P reason word late twice
+    (on_after P (reasons.Count ∷ reasons.Number ∷ reasons.Hex ∷ reasons.Address ∷ reasons.Peer ∷ []) (reasons.Range ∷ [])
+    (reasons.Name ∷ reasons.Mode ∷ reasons.Group ∷ reasons.Range ∷ []) reason (with_names P reason none) first)
 
 -- a line of one field of such a form
 abbrev pub FailsAsOne : Form → List (List ℕ) → Reason → Type 0
 FailsAsOne form values reason = FailsIn (record { forms = form ∷ []; repeated = None }) values reason
 
-one_judged : (form : Form) (values : List (List ℕ)) (reason : Reason) → IsRelayForm form
+pub one_judged : (form : Form) (values : List (List ℕ)) (reason : Reason) → IsRelayForm form
     → First (FailsAsOne form values) relay_order_of_values reason → First (FailsAsOne form values) order_of_reasons reason
-one_judged form values reason is first =
-    inr (
-      one_never form values reasons.Word is.word,
-      inr (
-        one_never form values reasons.Late is.late,
-        inr (
-          one_never form values reasons.Twice is.twice,
-          values_with_names (FailsAsOne form values) reason
-              (one_never form values reasons.Name is.name, one_never form values reasons.Mode is.mode, one_never form values reasons.Group is.group) first,
-        ),
-      ),
-    )
+one_judged form values reason is =
+    let never = one_never form values in
+    judged (FailsAsOne form values) reason (never reasons.Word is.word) (never reasons.Late is.late) (never reasons.Twice is.twice)
+    (never reasons.Name is.name, never reasons.Mode is.mode, never reasons.Group is.group)
 
-pub moment_judged : (values : List (List ℕ)) (reason : Reason) → First (FailsAsOne a_moment values) relay_order_of_values reason
-    → First (FailsAsOne a_moment values) order_of_reasons reason
-moment_judged values reason first =
-    one_judged a_moment values reason
-    (record { word = λ text h. h; late = λ text h. h; twice = λ text h. h; name = λ text h. h; mode = λ text h. h; group = λ text h. h }) first
+pub relay_moment : IsRelayForm a_moment
+relay_moment = record { word = λ text h. h; late = λ text h. h; twice = λ text h. h; name = λ text h. h; mode = λ text h. h; group = λ text h. h }
 
-pub secret_judged : (values : List (List ℕ)) (reason : Reason) → First (FailsAsOne a_secret values) relay_order_of_values reason
-    → First (FailsAsOne a_secret values) order_of_reasons reason
-secret_judged values reason first =
-    one_judged a_secret values reason
-    (record { word = λ text h. h; late = λ text h. h; twice = λ text h. h; name = λ text h. h; mode = λ text h. h; group = λ text h. h }) first
+pub relay_secret : IsRelayForm a_secret
+relay_secret = record { word = λ text h. h; late = λ text h. h; twice = λ text h. h; name = λ text h. h; mode = λ text h. h; group = λ text h. h }
 
-octets_judged : (values : List (List ℕ)) (reason : Reason) → First (FailsAsOne some_octets values) relay_order_of_values reason
-    → First (FailsAsOne some_octets values) order_of_reasons reason
-octets_judged values reason first =
-    one_judged some_octets values reason
-    (record { word = λ text h. h; late = λ text h. h; twice = λ text h. h; name = λ text h. h; mode = λ text h. h; group = λ text h. h }) first
+relay_octets : IsRelayForm some_octets
+relay_octets = record { word = λ text h. h; late = λ text h. h; twice = λ text h. h; name = λ text h. h; mode = λ text h. h; group = λ text h. h }
 
 pub packet_judged : (values : List (List ℕ)) (error : LineError) → FailsFirst (FailsAsOne some_octets values) relay_order_of_values error
     → FailsFirst (FailsAsOne some_octets values) order_of_reasons error
-packet_judged values (Bad reason) first = octets_judged values reason first
+packet_judged values (Bad reason) first = one_judged some_octets values reason relay_octets first
 packet_judged values Memory first = tt
 
 abbrev FailsAsNone : List (List ℕ) → Reason → Type 0
@@ -98,39 +89,22 @@ FailsAsNone values reason = FailsIn (record { forms = []; repeated = None }) val
 
 pub show_judged : (values : List (List ℕ)) (reason : Reason) → First (FailsAsNone values) relay_order_of_values reason
     → First (FailsAsNone values) order_of_reasons reason
-show_judged values reason first =
-    inr (
-      none_never values reasons.Word,
-      inr (
-        none_never values reasons.Late,
-        inr (
-          none_never values reasons.Twice,
-          values_with_names (FailsAsNone values) reason (none_never values reasons.Name, none_never values reasons.Mode, none_never values reasons.Group) first,
-        ),
-      ),
-    )
+show_judged values reason =
+    let never = none_never values in
+    judged (FailsAsNone values) reason (never reasons.Word) (never reasons.Late) (never reasons.Twice) (never reasons.Name, never reasons.Mode, never reasons.Group)
 
 -- no field of a setting fails for these
 no_name : (key : Key) → Never (form_of_key key) reasons.Name
 no_name keys.Relay text h = h
-no_name keys.Query4 text h = h
-no_name keys.Query6 text h = h
-no_name (keys.Number key) text h = h
-no_name keys.Secret text h = h
+no_name key text h = h
 
 no_mode : (key : Key) → Never (form_of_key key) reasons.Mode
 no_mode keys.Relay text h = h
-no_mode keys.Query4 text h = h
-no_mode keys.Query6 text h = h
-no_mode (keys.Number key) text h = h
-no_mode keys.Secret text h = h
+no_mode key text h = h
 
 no_group : (key : Key) → Never (form_of_key key) reasons.Group
 no_group keys.Relay text h = h
-no_group keys.Query4 text h = h
-no_group keys.Query6 text h = h
-no_group (keys.Number key) text h = h
-no_group keys.Secret text h = h
+no_group key text h = h
 
 pub set_judged : {I : Type 0} → (given : List Setting) (items : List I) (values : List (List ℕ)) (reason : Reason)
     → First (FailsToSet given items values) relay_order_of_reasons reason → First (FailsToSet given items values) order_of_reasons reason
@@ -147,35 +121,11 @@ set_judged given items values reason first =
 -- no form of any field fails for these
 form_late : (form : Form) → Never form reasons.Late
 form_late a_moment text h = h
-form_late (a_number least most) text h = h
-form_late some_octets text h = h
-form_late a_secret text h = h
-form_late a_nonce text h = h
-form_late an_address text h = h
-form_late an_address4 text h = h
-form_late an_address6 text h = h
-form_late (an_address_of family) text h = h
-form_late a_peer text h = h
-form_late a_name text h = h
-form_late a_mode text h = h
-form_late (a_group family) text h = h
-form_late a_family text h = h
+form_late form text h = h
 
 form_twice : (form : Form) → Never form reasons.Twice
 form_twice a_moment text h = h
-form_twice (a_number least most) text h = h
-form_twice some_octets text h = h
-form_twice a_secret text h = h
-form_twice a_nonce text h = h
-form_twice an_address text h = h
-form_twice an_address4 text h = h
-form_twice an_address6 text h = h
-form_twice (an_address_of family) text h = h
-form_twice a_peer text h = h
-form_twice a_name text h = h
-form_twice a_mode text h = h
-form_twice (a_group family) text h = h
-form_twice a_family text h = h
+form_twice form text h = h
 
 all_never : (forms : List Form) (repeated : Option Form) (values : List (List ℕ)) (reason : Reason) → ((form : Form) → Never form reason)
     → SomeFails forms repeated values reason → ⊥
@@ -210,10 +160,5 @@ name_alone family values none =
 
 pub number_counted : (values : List (List ℕ)) → length values ≢ 1 → First (FailsAsNumber values) order_of_reasons reasons.Count
 number_counted values count =
-    inr (
-      one_never a_moment values reasons.Word (λ text h. h),
-      inr (
-        one_never a_moment values reasons.Late (λ text h. h),
-        inr (one_never a_moment values reasons.Twice (λ text h. h), inl (count, refl)),
-      ),
-    )
+    let never = one_never a_moment values in
+    past_three (FailsAsNumber values) reasons.Count (never reasons.Word (λ text h. h)) (never reasons.Late (λ text h. h)) (never reasons.Twice (λ text h. h)) (inl (count, refl))

@@ -7,7 +7,7 @@ use Rattle.script_lines.{specs.{Lines.{IsShort, fields, lines_that_say, says_not
 use Rattle.amt_pair.specs.{Schedule.{MayCome}, Setup.{Host}, declared.event.PairEvent.{PairEvent}}
 use Rattle.amt_pair.specs.declared.event.PairEvent.TheVariants as events
 use Rattle.pair_script.specs.{Gateways.{family_of}, Running.{CanBeAdded, IsItem, IsRunnable}, Says.{SaysCall, SaysEventAfter, SaysItemAfter}, Script.{IsPairScript, gateway_in, gateways_in, items_in, pair_kind}, Setup.{host_of}}
-use Rattle.pair_script.{specs.declared.{script.{PairGateway.{PairGateway}, PairItem.{PairItem}, PairScript.{PairScript}}, statement.PairStatement.{PairStatement}}, proofs.{Found.{found_among, found_has_name}, Heard.{gateways_same}}}
+use Rattle.pair_script.{specs.declared.{script.{PairGateway.{PairGateway}, PairItem.{PairItem}, PairScript.{PairScript}}, statement.PairStatement.{PairStatement}}, proofs.{Found.{found_among, found_has_name}, Heard.{none_more}}}
 use Rattle.pair_script.specs.declared.script.PairItem.TheVariants as items
 use Rattle.pair_script.specs.declared.statement.PairStatement.TheVariants as statements
 
@@ -17,7 +17,7 @@ can_be_added past [] [] each = tt
 can_be_added past [] (line ∷ ls) each = tt
 can_be_added past (one ∷ said) [] each = absurd each
 can_be_added past (statements.Setting setting ∷ said) (line ∷ ls) each =
-    subst (λ (before : List PairGateway). CanBeAdded before (gateways_in said)) (sym (gateways_same past (statements.Setting setting) refl))
+    subst (λ (before : List PairGateway). CanBeAdded before (gateways_in said)) (sym (none_more gateway_in past (statements.Setting setting) refl))
     (can_be_added (past ++ statements.Setting setting ∷ []) said ls each.2)
 can_be_added past (statements.Gateway gateway ∷ said) (line ∷ ls) each = (
   each.1.0.new,
@@ -26,7 +26,7 @@ can_be_added past (statements.Gateway gateway ∷ said) (line ∷ ls) each = (
       (can_be_added (past ++ statements.Gateway gateway ∷ []) said ls each.2),
 )
 can_be_added past (statements.Item item ∷ said) (line ∷ ls) each =
-    subst (λ (before : List PairGateway). CanBeAdded before (gateways_in said)) (sym (gateways_same past (statements.Item item) refl))
+    subst (λ (before : List PairGateway). CanBeAdded before (gateways_in said)) (sym (none_more gateway_in past (statements.Item item) refl))
     (can_be_added (past ++ statements.Item item ∷ []) said ls each.2)
 
 -- the hosts of all that lines give
@@ -54,12 +54,9 @@ call_may_come settings past said name event line few says =
 
 event_may_come : (settings : Settings) (past said : List PairStatement) (event : PairEvent) (line : List (List ℕ)) → length line ≤ 140100
     → SaysEventAfter (gateways_in past) event line → MayCome (hosts_in settings (past ++ said)) event
-event_may_come settings past said (events.Moment at) line few says = tt
-event_may_come settings past said (events.Rotate secret) line few says = tt
 event_may_come settings past said (events.Packet bytes) line few says = hex_sized bytes says.text says.names
 event_may_come settings past said (events.Socket name event) line few says = call_may_come settings past said name event line few says
-event_may_come settings past said (events.Up number) line few says = tt
-event_may_come settings past said (events.Down number) line few says = tt
+event_may_come settings past said event line few says = tt
 
 item_may_come : (settings : Settings) (past said : List PairStatement) (item : PairItem) (line : List (List ℕ)) → length line ≤ 140100
     → SaysItemAfter (gateways_in past) item line → IsItem (hosts_in settings (past ++ said)) item

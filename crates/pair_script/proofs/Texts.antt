@@ -1,54 +1,24 @@
 -- The text of one more datagram, and of one more part.
-use Rattle.std.{proofs.{Common.{◌≡◌, ◌<◌, ℕ, ◌+◌, List, [], ◌∷◌, ◌++◌, length, get_or, take, zero, suc, codes, refl, sym, ap, ◌∙◌, append-nil, append_assoc, arith}, lemmas.List.{take_more, Sums.{sum_by-cons}}}, specs.List.{sum_by}}
-use Rattle.amt_values.specs.Endpoint.{peer_of}
-use Rattle.gateway_machine.specs.declared.step.PeerSend.{PeerSend}
-use Rattle.relay_machine.specs.declared.sends.OneSend.{OneSend}
+use Rattle.std.{proofs.{Common.{◌≡◌, ◌<◌, ℕ, ◌+◌, List, [], ◌∷◌, ◌++◌, length, get_or, take, refl, sym, ap, ◌∙◌, append-nil, append_assoc, arith}, lemmas.List.{length-take-le, take_more, Sums.{sum_by-cons}}}, specs.List.{sum_by}}
 use Rattle.amt_pair.specs.declared.step.Part.{Part}
-use Rattle.pair_script.specs.Texts.{datagram_line, downs_in, downs_text, part_text, parts_text, ups_in, ups_text}
+use Rattle.pair_script.specs.Texts.{downs_in, part_text, parts_text, sends_text, ups_in}
 
-downs_push : (sent : ℕ) (sends : List OneSend) (send : OneSend)
-    → downs_text sent (sends ++ send ∷ []) ≡ downs_text sent sends ++ datagram_line (codes "down") (sent + length sends + 1) (peer_of send.to) send.bytes
-downs_push sent [] send = append-nil _ ∙ ap (λ (n : ℕ). datagram_line (codes "down") (n + 1) (peer_of send.to) send.bytes) (omega arith)
-downs_push sent (first ∷ sends) send =
-    let line = datagram_line (codes "down") (sent + 1) (peer_of first.to) first.bytes in
+sends_push : {X : Type 0} (line : ℕ → X → List ℕ) (sent : ℕ) (sends : List X) (send : X)
+    → sends_text line sent (sends ++ send ∷ []) ≡ sends_text line sent sends ++ line (sent + length sends + 1) send
+sends_push line sent [] send = append-nil _ ∙ ap (λ (n : ℕ). line (n + 1) send) (omega arith)
+sends_push line sent (first ∷ sends) send =
     let number : sent + 1 + length sends + 1 ≡ sent + length (first ∷ sends) + 1 = omega arith in
-    ap (λ (text : List ℕ). line ++ text) (downs_push (sent + 1) sends send)
-    ∙ (ap (λ (n : ℕ). line ++ (downs_text (sent + 1) sends ++ datagram_line (codes "down") n (peer_of send.to) send.bytes)) number
-    ∙ sym (append_assoc line (downs_text (sent + 1) sends) (datagram_line (codes "down") (sent + length (first ∷ sends) + 1) (peer_of send.to) send.bytes)))
-
-length_taken : {X : Type 0} → (xs : List X) (i : ℕ) → i < length xs → length (take i xs) ≡ i
-length_taken [] i inside = absurd (omega (arith, inside))
-length_taken (x ∷ xs) zero inside = refl
-length_taken (x ∷ xs) (suc i) inside = ap suc (length_taken xs i (omega (arith, inside)))
+    ap (λ (text : List ℕ). line (sent + 1) first ++ text) (sends_push line (sent + 1) sends send)
+    ∙ (ap (λ (n : ℕ). line (sent + 1) first ++ (sends_text line (sent + 1) sends ++ line n send)) number
+    ∙ sym (append_assoc (line (sent + 1) first) (sends_text line (sent + 1) sends) (line (sent + length (first ∷ sends) + 1) send)))
 
 -- the datagrams so far, and the next one
-pub downs_more : (sent : ℕ) (sends : List OneSend) (i : ℕ) (d : OneSend) → i < length sends
-    → downs_text sent (take (i + 1) sends)
-    ≡ downs_text sent (take i sends) ++ datagram_line (codes "down") (sent + i + 1) (peer_of (get_or sends i d).to) (get_or sends i d).bytes
-downs_more sent sends i d inside =
-    let send = get_or sends i d in
-    ap (downs_text sent) (take_more sends i d inside)
-    ∙ (downs_push sent (take i sends) send
-    ∙ ap (λ (n : ℕ). downs_text sent (take i sends) ++ datagram_line (codes "down") (sent + n + 1) (peer_of send.to) send.bytes) (length_taken sends i inside))
-
-ups_push : (sent : ℕ) (sends : List PeerSend) (send : PeerSend)
-    → ups_text sent (sends ++ send ∷ []) ≡ ups_text sent sends ++ datagram_line (codes "up") (sent + length sends + 1) send.to send.bytes
-ups_push sent [] send = append-nil _ ∙ ap (λ (n : ℕ). datagram_line (codes "up") (n + 1) send.to send.bytes) (omega arith)
-ups_push sent (first ∷ sends) send =
-    let line = datagram_line (codes "up") (sent + 1) first.to first.bytes in
-    let number : sent + 1 + length sends + 1 ≡ sent + length (first ∷ sends) + 1 = omega arith in
-    ap (λ (text : List ℕ). line ++ text) (ups_push (sent + 1) sends send)
-    ∙ (ap (λ (n : ℕ). line ++ (ups_text (sent + 1) sends ++ datagram_line (codes "up") n send.to send.bytes)) number
-    ∙ sym (append_assoc line (ups_text (sent + 1) sends) (datagram_line (codes "up") (sent + length (first ∷ sends) + 1) send.to send.bytes)))
-
-pub ups_more : (sent : ℕ) (sends : List PeerSend) (i : ℕ) (d : PeerSend) → i < length sends
-    → ups_text sent (take (i + 1) sends)
-    ≡ ups_text sent (take i sends) ++ datagram_line (codes "up") (sent + i + 1) (get_or sends i d).to (get_or sends i d).bytes
-ups_more sent sends i d inside =
-    let send = get_or sends i d in
-    ap (ups_text sent) (take_more sends i d inside)
-    ∙ (ups_push sent (take i sends) send
-    ∙ ap (λ (n : ℕ). ups_text sent (take i sends) ++ datagram_line (codes "up") (sent + n + 1) send.to send.bytes) (length_taken sends i inside))
+pub sends_more : {X : Type 0} (line : ℕ → X → List ℕ) (sent : ℕ) (sends : List X) (i : ℕ) (d : X) → i < length sends
+    → sends_text line sent (take (i + 1) sends) ≡ sends_text line sent (take i sends) ++ line (sent + i + 1) (get_or sends i d)
+sends_more line sent sends i d inside =
+    ap (sends_text line sent) (take_more sends i d inside)
+    ∙ (sends_push line sent (take i sends) (get_or sends i d)
+    ∙ ap (λ (n : ℕ). sends_text line sent (take i sends) ++ line (sent + n + 1) (get_or sends i d)) (length-take-le i sends (omega (arith, inside))))
 
 pub same_counts : (number up up' down down' : ℕ) (part : Part) → up ≡ up' → down ≡ down' → part_text number up down part ≡ part_text number up' down' part
 same_counts number up up' down down' part same_up same_down = rw (same_up, same_down) refl

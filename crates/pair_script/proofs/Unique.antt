@@ -77,11 +77,7 @@ SaysEventAfter-same gateways one other line same h k = cc same
 -- no event has the opening of `show`
 no_show : (event : PairEvent) → opening_of_event event ≡ opening_of_item items.Show → ⊥
 no_show (events.Moment at) same = cc same
-no_show (events.Rotate secret) same = cc same
-no_show (events.Packet bytes) same = cc same
-no_show (events.Socket name event) same = cc same
-no_show (events.Up number) same = cc same
-no_show (events.Down number) same = cc same
+no_show event same = cc same
 
 SaysItemAfter-same : (gateways : List PairGateway) (one other : PairItem) (line : List (List ℕ)) → opening_of_item one ≡ opening_of_item other
     → SaysItemAfter gateways one line → SaysItemAfter gateways other line → one ≡ other
@@ -94,20 +90,12 @@ SaysItemAfter-same gateways items.Show (items.Event other) line same h k = absur
 no_set : (item : PairItem) (setting : Setting) → opening_of_item item ≡ opening_of_statement (statements.Setting setting) → ⊥
 no_set items.Show setting same = cc same
 no_set (items.Event (events.Moment at)) setting same = cc same
-no_set (items.Event (events.Rotate secret)) setting same = cc same
-no_set (items.Event (events.Packet bytes)) setting same = cc same
-no_set (items.Event (events.Socket name event)) setting same = cc same
-no_set (items.Event (events.Up number)) setting same = cc same
-no_set (items.Event (events.Down number)) setting same = cc same
+no_set (items.Event event) setting same = cc same
 
 no_gateway : (item : PairItem) (gateway : PairGateway) → opening_of_item item ≡ opening_of_statement (statements.Gateway gateway) → ⊥
 no_gateway items.Show gateway same = cc same
 no_gateway (items.Event (events.Moment at)) gateway same = cc same
-no_gateway (items.Event (events.Rotate secret)) gateway same = cc same
-no_gateway (items.Event (events.Packet bytes)) gateway same = cc same
-no_gateway (items.Event (events.Socket name event)) gateway same = cc same
-no_gateway (items.Event (events.Up number)) gateway same = cc same
-no_gateway (items.Event (events.Down number)) gateway same = cc same
+no_gateway (items.Event event) gateway same = cc same
 
 same_statement : (given : List Setting) (gateways : List PairGateway) (before : List PairItem) (one other : PairStatement) (line : List (List ℕ))
     → opening_of_statement one ≡ opening_of_statement other → SaysAfter given gateways before one line → SaysAfter given gateways before other line → one ≡ other

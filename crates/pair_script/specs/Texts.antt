@@ -19,21 +19,23 @@ abbrev pub datagram_line : List ℕ → ℕ → Peer → List ℕ → List ℕ
 datagram_line direction number peer bytes =
     codes "> " ++ (direction ++ (codes " " ++ (decimal number ++ (codes " " ++ (peer_text peer ++ (codes " " ++ (hex_text bytes ++ 10 ∷ [])))))))
 
--- the relay's sends, of which the first has the number after this one
-abbrev pub downs_text : ℕ → List OneSend → List ℕ
-downs_text sent [] = []
-downs_text sent (send ∷ rest) = datagram_line (codes "down") (sent + 1) (peer_of send.to) send.bytes ++ downs_text (sent + 1) rest
+-- sends by their lines, of which the first has the number after this one
+abbrev pub sends_text : {X : Type 0} → (ℕ → X → List ℕ) → ℕ → List X → List ℕ
+sends_text line sent [] = []
+sends_text line sent (send ∷ rest) = line (sent + 1) send ++ sends_text line (sent + 1) rest
 
--- a gateway's sends, in the same way
-abbrev pub ups_text : ℕ → List PeerSend → List ℕ
-ups_text sent [] = []
-ups_text sent (send ∷ rest) = datagram_line (codes "up") (sent + 1) send.to send.bytes ++ ups_text (sent + 1) rest
+-- the line of a datagram of the relay, and of one of a gateway
+abbrev pub down_line : ℕ → OneSend → List ℕ
+down_line number send = datagram_line (codes "down") number (peer_of send.to) send.bytes
+
+abbrev pub up_line : ℕ → PeerSend → List ℕ
+up_line number send = datagram_line (codes "up") number send.to send.bytes
 
 -- a part, where so many datagrams were sent to the relay and by it before
 abbrev pub part_text : ℕ → ℕ → ℕ → Part → List ℕ
-part_text number up down (Relay step) = part_line number (codes "relay") (relay_outcome_text step.outcome) ++ downs_text down step.sends
+part_text number up down (Relay step) = part_line number (codes "relay") (relay_outcome_text step.outcome) ++ sends_text down_line down step.sends
 part_text number up down (Gateway name step) =
-    part_line number name (gateway_outcome_text step.outcome) ++ (ups_text up step.sends ++ delivery_text step.deliver)
+    part_line number name (gateway_outcome_text step.outcome) ++ (sends_text up_line up step.sends ++ delivery_text step.deliver)
 part_text number up down (Absent datagram) = part_line number (codes "absent") (decimal datagram)
 
 -- how many datagrams are sent to the relay in a part

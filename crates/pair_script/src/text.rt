@@ -2,7 +2,7 @@
 
 ghost use Rattle.std.specs.Prelude.{◌≡◌, ◌+◌, ◌<◌, ◌^◌, ◌++◌, codes, decimal, length, sum_by, OnOk};
 ghost use Rattle.amt_pair.specs.declared.step.Part.TheVariants.{Absent as AbsentPart, Gateway as GatewayPart, Relay as RelayPart};
-ghost use Rattle.pair_script.specs.Texts.{datagram_line, downs_in, downs_text, part_text, parts_text, ups_in, ups_text};
+ghost use Rattle.pair_script.specs.Texts.{datagram_line, down_line, downs_in, part_text, parts_text, sends_text, up_line, ups_in};
 
 use amt_pair::Part;
 use amt_script::append_relay_outcome;
@@ -46,7 +46,7 @@ fn append_datagram(
 // The relay's sends, of which the first has the number after this one.
 fn append_downs(text: &mut Bytes, sent: u64, sends: &[OneSend]) -> Result<(), AllocError>
     requires { sent + length sends.now < 2 ^ 64 }
-    ensures { OnOk result (text.new ≡ text.old ++ downs_text sent sends.now) }
+    ensures { OnOk result (text.new ≡ text.old ++ sends_text down_line sent sends.now) }
 {
     for (index, send) in sends.iter().enumerate() {
         let number = sent + index as u64 + 1;
@@ -64,7 +64,7 @@ fn append_downs(text: &mut Bytes, sent: u64, sends: &[OneSend]) -> Result<(), Al
 // A gateway's sends, in the same way.
 fn append_ups(text: &mut Bytes, sent: u64, sends: &[PeerSend]) -> Result<(), AllocError>
     requires { sent + length sends.now < 2 ^ 64 }
-    ensures { OnOk result (text.new ≡ text.old ++ ups_text sent sends.now) }
+    ensures { OnOk result (text.new ≡ text.old ++ sends_text up_line sent sends.now) }
 {
     for (index, send) in sends.iter().enumerate() {
         let number = sent + index as u64 + 1;

@@ -35,8 +35,8 @@ loop-gateway-preserved c =
       event = event;
       come = λ members at.
           let within : place < length members = omega (arith, lengths_are c.args.gateways.now members at) in
-          come_to_next c.args.at.now place members gateways c.args.up.now c.loop-gateway.up c.args.parts.now.items c.loop-gateway.parts.items
-          within (c.loop-gateway.invariant.come members at) named next c.take.new.up c.push_reserved.new.self.items c.in-Ok.part here
+          come_to_next c.args.at.now members gateways c.args.up.now c.loop-gateway.up c.args.parts.now.items c.loop-gateway.parts.items place
+          (c.loop-gateway.invariant.come members at) named next c.take.new.up c.push_reserved.new.self.items c.in-Ok.part within here
           (λ member is. subst (λ (taken : GatewayEvent). IsMemberAt next (with_gateway_event taken member)) event (c.in-Ok.ensures.next member is))
           (λ member is. subst (λ (taken : GatewayEvent). c.take.new.up ≡ c.loop-gateway.up ++ map kept_upward (upwards_on taken member)) event (c.in-Ok.ensures.sent member is))
           (λ member is. subst (λ (taken : GatewayEvent). c.in-Ok.part ≡ gateway_part taken member) event (c.in-Ok.ensures.part member is))
@@ -50,11 +50,13 @@ pub returns-in_default-clause-some : goal.returns-in_default-clause-some
 returns-in_default-clause-some c = λ members at starved.
     let place = c.loop-gateway.gateway-index in
     let gateways = c.loop-gateway.gateways in
-    let named = get_or gateways place c.gateway-item.result in
-    let within : place < length members = omega (arith, lengths_are c.args.gateways.now members at) in
-    come_to_some c.args.at.now place members gateways c.args.up.now c.loop-gateway.up c.args.parts.now.items c.loop-gateway.parts.items
-    within (c.loop-gateway.invariant.come members at) named c.take.new.self c.take.new.up
-    (ap (λ (one : NamedGateway). get_or gateways place one) c.gateway-item.is) c.in_default.ensures.same c.in_default.ensures.same_up
+    let named = get_or gateways place c.gateway-item.result in (
+      place,
+      omega (arith, lengths_are c.args.gateways.now members at),
+      come_to_some c.args.at.now members gateways c.args.up.now c.loop-gateway.up c.args.parts.now.items c.loop-gateway.parts.items place
+          (c.loop-gateway.invariant.come members at) named c.take.new.self c.take.new.up
+          (ap (λ (one : NamedGateway). get_or gateways place one) c.gateway-item.is) c.in_default.ensures.same c.in_default.ensures.same_up,
+    )
 
 pub returns-in_default-clause-hosts : goal.returns-in_default-clause-hosts
 returns-in_default-clause-hosts c =
@@ -67,9 +69,8 @@ returns-in_default-clause-hosts c =
 
 pub returns-clause-all : goal.returns-clause-all
 returns-clause-all c = λ members at yes.
-    let place = c.loop-gateway.gateway-index in
     come_to_all c.args.at.now members c.loop-gateway.gateways c.args.up.now c.loop-gateway.up c.args.parts.now.items c.loop-gateway.parts.items
-    place (omega (arith, lengths_are c.args.gateways.now members at)) (c.loop-gateway.invariant.come members at)
+    c.loop-gateway.gateway-index (c.loop-gateway.invariant.come members at) (omega (arith, lengths_are c.args.gateways.now members at))
 
 pub returns-clause-hosts : goal.returns-clause-hosts
 returns-clause-hosts c = c.loop-gateway.invariant.hosts

@@ -1,5 +1,5 @@
 use Rattle.std.proofs.Common.{◌≡◌, ◌+◌, ◌++◌, List, ℕ, take, get_or, codes, ap, sym, ◌∙◌, append_assoc, rules}
-use Rattle.pair_script.{specs.Texts.{datagram_line, ups_text}, proofs.Texts.{ups_more}}
+use Rattle.pair_script.{specs.Texts.{datagram_line, sends_text, up_line}, proofs.Texts.{sends_more}}
 use Rattle.pair_script.proofs.text.append_ups.Goals as goal
 
 pub loop-index-preserved : goal.loop-index-preserved
@@ -8,9 +8,9 @@ loop-index-preserved c =
     let sends = c.args.sends.now in
     let i = c.loop-index.index in
     let d = c.index-sends-index.result in
-    let before = ups_text c.args.sent (take i sends) in
+    let before = sends_text up_line c.args.sent (take i sends) in
     let send = get_or sends i d in
     let line = datagram_line (codes "up") (c.args.sent + i + 1) (send.to) send.bytes in
     let written : c.append_datagram.new.text ≡ c.loop-index.text ++ line = search rules in
     written ∙ (ap (λ (text : List ℕ). text ++ line) c.loop-index.invariant
-    ∙ (append_assoc start before line ∙ ap (λ (text : List ℕ). start ++ text) (sym (ups_more c.args.sent sends i d c.loop-index-test.true))))
+    ∙ (append_assoc start before line ∙ ap (λ (text : List ℕ). start ++ text) (sym (sends_more up_line c.args.sent sends i d c.loop-index-test.true))))

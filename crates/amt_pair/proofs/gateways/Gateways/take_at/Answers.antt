@@ -1,41 +1,33 @@
-use Rattle.std.proofs.{Common.{◌≡◌, List, ◌∷◌, ◌++◌, map, get_or, sym, ap, ◌∙◌, subst}, Math.Seq.{map-set_same}, lemmas.Result.{IfOk-weaker}}
+use Rattle.std.proofs.{Common.{◌≡◌, List, map, get_or, sym, ap, ◌∙◌, subst}, Math.Seq.{map-set_same}, lemmas.Result.{IfOk-weaker}}
 use Rattle.gateway_machine.specs.{Events.{IsEventOf}, Runs.{settings_of}}
-use Rattle.amt_pair.{specs.{Members.{AreMembersAt, IsMemberAt, host_of}, Schedule.{with_gateway_event}, declared.gateways.NamedGateway.{NamedGateway}}, proofs.MembersAt.{member_at_place, members_set_place, split_place}}
+use Rattle.amt_pair.{specs.{Members.{AreMembersAt, IsMemberAt, host_of}, Schedule.{with_gateway_event}, declared.gateways.NamedGateway.{NamedGateway}}, proofs.MembersAt.{member_at_place, members_set}}
 use Rattle.amt_pair.proofs.gateways.Gateways.take_at.Goals as goal
 
 pub take-requires-clause-event : goal.take-requires-clause-event
 take-requires-clause-event c =
-    let split = split_place c.args.self.now c.args.place c.requires.place in
     let named = c.index_mut.result.now in
-    let is : named ≡ split.one =
-    c.index_mut.ensures.value ∙ ap (λ (all : List NamedGateway). get_or all c.args.place named) c.self.view_is ∙ split.here named in
-    subst (λ (one : NamedGateway). IsEventOf (settings_of one.gateway) c.args.event.now) (sym is)
-    (c.requires.event split.before split.after split.one split.split split.place_is)
+    let is : named ≡ get_or c.args.self.now c.args.place named =
+    c.index_mut.ensures.value ∙ ap (λ (all : List NamedGateway). get_or all c.args.place named) c.self.view_is in
+    subst (λ (one : NamedGateway). IsEventOf (settings_of one.gateway) c.args.event.now) (sym is) (c.requires.event named)
 
 pub returns-clause-part : goal.returns-clause-part
-returns-clause-part c = λ before after member at place.
-    let here : AreMembersAt c.self.inside.gateways.items (before ++ member ∷ after) =
-    subst (λ (all : List NamedGateway). AreMembersAt all (before ++ member ∷ after)) (sym c.self.view_is) at in
+returns-clause-part c = λ members member at there.
     c.take.ensures.part member
-    (member_at_place c.self.inside.gateways.items before after member c.args.place c.index_mut.result.now here place c.index_mut.ensures.value)
+    (member_at_place c.self.inside.gateways.items c.args.self.now members c.args.place c.index_mut.result.now member c.self.view_is at c.requires.place c.index_mut.ensures.value there)
 
 pub returns-clause-next : goal.returns-clause-next
-returns-clause-next c = λ before after member at place.
+returns-clause-next c = λ members member at there.
     let items = c.self.inside.gateways.items in
     let next = with_gateway_event c.args.event.now member in
-    let here : AreMembersAt items (before ++ member ∷ after) =
-    subst (λ (all : List NamedGateway). AreMembersAt all (before ++ member ∷ after)) (sym c.self.view_is) at in
     IfOk-weaker c.take.result (λ part. IsMemberAt c.take.new.self next) _
-    (λ part now. members_set_place items before after member next c.args.place c.take.new.self here place now)
+    (λ part now. members_set items members c.args.place c.take.new.self next (subst (λ (all : List NamedGateway). AreMembersAt all members) (sym c.self.view_is) at) now)
     (c.take.ensures.next member
-    (member_at_place items before after member c.args.place c.index_mut.result.now here place c.index_mut.ensures.value))
+    (member_at_place items c.args.self.now members c.args.place c.index_mut.result.now member c.self.view_is at c.requires.place c.index_mut.ensures.value there))
 
 pub returns-clause-sent : goal.returns-clause-sent
-returns-clause-sent c = λ before after member at place.
-    let here : AreMembersAt c.self.inside.gateways.items (before ++ member ∷ after) =
-    subst (λ (all : List NamedGateway). AreMembersAt all (before ++ member ∷ after)) (sym c.self.view_is) at in
+returns-clause-sent c = λ members member at there.
     c.take.ensures.sent member
-    (member_at_place c.self.inside.gateways.items before after member c.args.place c.index_mut.result.now here place c.index_mut.ensures.value)
+    (member_at_place c.self.inside.gateways.items c.args.self.now members c.args.place c.index_mut.result.now member c.self.view_is at c.requires.place c.index_mut.ensures.value there)
 
 pub returns-clause-hosts : goal.returns-clause-hosts
 returns-clause-hosts c =

@@ -1,12 +1,12 @@
-use Rattle.std.proofs.Common.{List, [], ◌∷◌, ◌++◌, refl, sym, ap, ◌∙◌, flat_map, append-nil}
+use Rattle.std.proofs.{Common.{List, [], ◌∷◌, ◌++◌, refl, sym, ap, ◌∙◌, flat_map, take, append-nil}, lemmas.Bool.{not-false, not-true}}
 use Rattle.gateway_machine.specs.declared.event.GatewayEvent.TheVariants.{Moment as Passes}
 use Rattle.relay_machine.specs.declared.event.Event.TheVariants.{Moment}
-use Rattle.amt_pair.{specs.{Parts.{gateway_parts}, Schedule.{upwards_on}, declared.step.Part.{Part, TheVariants.{Relay}}}, proofs.PairStates.{all_are, false_by, relay_step_is, true_by, up_more, up_of_all}}
+use Rattle.amt_pair.{specs.{Parts.{gateway_parts}, Schedule.{upwards_on}, declared.step.Part.{Part, TheVariants.{Relay}}}, proofs.PairStates.{all_are, relay_step_is, up_more, up_of_all}}
 use Rattle.amt_pair.proofs.pair.Pair.take_moment.Goals as goal
 
 pub returns-clause-next : goal.returns-clause-next
 returns-clause-next c = λ setup course stands full.
-    let all = true_by c.take_moment-came_to_all.result (sym c.step_of.ensures.starved ∙ full) in
+    let all = not-false c.take_moment-came_to_all.result (sym c.step_of.ensures.starved ∙ full) in
     let come = c.take_moment-came_to_all.ensures.all course.members stands.gateways all in
     record {
       relay = c.in_ok-step.ensures.next setup.settings setup.secret course.relay stands.relay;
@@ -17,7 +17,7 @@ returns-clause-next c = λ setup course stands full.
 
 pub returns-clause-starved : goal.returns-clause-starved
 returns-clause-starved c = λ setup course stands starved.
-    let not_all = false_by c.take_moment-came_to_all.result (sym c.step_of.ensures.starved ∙ starved) in
+    let not_all = not-true c.take_moment-came_to_all.result (sym c.step_of.ensures.starved ∙ starved) in
     let some = c.take_moment-came_to_all.ensures.some course.members stands.gateways not_all in
     let at = c.args.at.now in
     let step = c.in_ok-step.step in
@@ -29,18 +29,16 @@ returns-clause-starved c = λ setup course stands starved.
       at,
       refl,
       record {
-        reached = some.reached;
-        rest = some.rest;
-        members = some.split;
-        some = some.some;
+        count = some.0;
+        some = some.1;
         parts_are =
-            c.step_of.ensures.parts ∙ some.come.parts
-            ∙ ap (λ (before : List Part). before ++ gateway_parts (Passes at) some.reached)
+            c.step_of.ensures.parts ∙ some.2.parts
+            ∙ ap (λ (before : List Part). before ++ gateway_parts (Passes at) (take some.0 course.members))
             (c.push_reserved.ensures.items ∙ ap (λ (before : List Part). before ++ Relay step ∷ []) c.in_ok-parts.ensures.items ∙ first);
         stands = record {
           relay = relay;
-          gateways = some.come.gateways_are;
-          up = up_more c.args.self.now.up c.take_moment-came_to_all.new.up course.up (flat_map (upwards_on (Passes at)) some.reached) stands.up some.come.sent;
+          gateways = some.2.gateways_are;
+          up = up_more c.args.self.now.up c.take_moment-came_to_all.new.up course.up (flat_map (upwards_on (Passes at)) (take some.0 course.members)) stands.up some.2.sent;
           down = stands.down ∙ sym (append-nil course.down);
         };
       },
