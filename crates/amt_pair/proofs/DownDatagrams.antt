@@ -7,8 +7,9 @@ use Rattle.inner_datagrams.specs.{declared.inner.InnerFault.{InnerFault}, Fault.
 use Rattle.response_mac.specs.{ResponseMac.{mac_of}, declared.secret.Secret.{Secret}}
 use Rattle.source_filter.specs.declared.query.QueryFields.{QueryFields}
 use Rattle.socket_merge.specs.FullReport.{family_by}
+use Rattle.endpoint_membership.specs.declared.limits.Limits.{Limits}
 use Rattle.gateway_machine.specs.{General.{carried_query, general_query_in, unless_fault}, Timing.{lifetime_of}, declared.{event.GatewayEvent.TheVariants.{Datagram as Heard}, settings.GatewaySettings.{GatewaySettings}}}
-use Rattle.relay_machine.{specs.{Queries.{general_query, query_fields, query_for}, Settings.{AreLawfulSettings, membership_interval_ms}, declared.{sends.OneSend.{OneSend}, settings.Settings.{Settings}}}, proofs.QuerySizes.{query_may_carry}}
+use Rattle.relay_machine.{specs.{Queries.{general_query, query_fields, query_for}, Settings.{AreLawfulSettings, membership_interval_ms}, declared.{sends.OneSend.{OneSend}, settings.Settings.{Settings}}}, proofs.QuerySizes.{general_query-limits, query_may_carry}}
 use Rattle.amt_pair.{specs.Queries.{HasQuerySources}, proofs.{GatewaySteps.{States}, HeardQueries.{length-mac_of, query_for-read}, QueryTimes.{lifetime_of-query_fields}, ReadQueries.{general_query_in-general_query}, SpelledKinds.{kind_of, same-kind}}}
 
 -- the inner octets are a General Query of the relay, of one family or the other
@@ -20,6 +21,15 @@ pub record IsDown (settings : Settings) (send : OneSend) : Type 0 where
   pub short : length send.bytes ≤ 65535
   pub query : (limited : Bool) (mac : Mac48) (nonce : ℕ) (inner : List ℕ) (seen : Option EndpointValue)
       → message_of send.bytes ≡ Ok (Query limited mac nonce inner seen) → IsGeneral settings inner
+
+-- whatever limits are in force: none is in a General Query
+pub down-limits : (settings : Settings) (limits : Limits) (send : OneSend) → IsDown (record settings { limits = limits }) send → IsDown settings send
+down-limits settings limits send down = record {
+  short = down.short;
+  query = λ limited mac nonce inner seen read.
+      let own = down.query limited mac nonce inner seen read in
+      (own.0, own.1 ∙ sym (general_query-limits settings limits own.0));
+}
 
 -- ---- what a gateway makes of it
 

@@ -1,11 +1,11 @@
 -- The histories of socket calls that a gateway of a family may have: each call was one that may come to it, and was
 -- not refused when it came. So a full report after them is one datagram.
-use Rattle.std.proofs.{Common.{◌≡◌, ℕ, Bool, true, false, not, List, [], ◌∷◌, ◌++◌, All, Option, Some, None, is_some, if◌then◌else◌, refl, sym, ap, subst, inl, inr}, lemmas.{Bool.{or_cases}, List.Elements.{All-cons, All-filter, All-head, All-nil, All-push, All-tail, All-weaker}}}
+use Rattle.std.proofs.{Common.{◌≡◌, ℕ, Bool, true, false, not, List, [], ◌∷◌, ◌++◌, All, Option, Some, None, is_some, if◌then◌else◌, refl, sym, ap, subst, inl, inr}, lemmas.{Bool.{cond_both, or_cases}, List.Elements.{All-cons, All-filter, All-head, All-map, All-nil, All-push, All-tail, All-weaker}}}
 use Rattle.amt_values.specs.{Conditions.{Conditions, first_holding}, Group.{is_forwardable}, Order.{ip_order}, Ascending.{has}, declared.address.Ip.{Ip}}
 use Rattle.source_filter.specs.Filter.{FilterValue}
 use Rattle.group_records.specs.{Written.{is_of_family}, declared.family.Family.{Family}}
-use Rattle.socket_merge.specs.{History.{AcceptedCall, Change, Close, LeaveAll, Open, SocketCall, group_opened, groups_opened, open_sockets, same_name, socket_named, sockets_after, with_call}, declared.stored.Socket.{Socket}, Interface.{same_group}, Kept.{IsLawful}, Refusal.{change_conditions, conditions_of, refusal_of}, declared.fault.SocketFault.{SocketFault}}
-use Rattle.socket_merge.proofs.{Amounts.{All-refiltered, has_name, with_filter}, Lawful.{IsLawful-next, IsLawful-none, MayCall as MayBeMade}, RawOctets.{family_is}, Wanted.{same_group-exact}}
+use Rattle.socket_merge.specs.{History.{AcceptedCall, Change, Close, LeaveAll, Open, SocketCall, group_opened, groups_opened, open_sockets, refiltered, same_name, socket_named, sockets_after, with_call}, declared.stored.Socket.{Socket}, Interface.{same_group}, Kept.{IsLawful}, Refusal.{change_conditions, conditions_of, refusal_of}, declared.fault.SocketFault.{SocketFault}}
+use Rattle.socket_merge.proofs.{Lawful.{IsLawful-next, IsLawful-none, MayCall as MayBeMade}, RawOctets.{family_is}, Wanted.{same_group-exact}}
 use Rattle.gateway_machine.{specs.Refusals.{refusal_by, refusal_in}, proofs.OwnSockets.{filter-of_socket}}
 use Rattle.amt_pair.specs.Events.{IsFilter}
 
@@ -74,8 +74,9 @@ module _ (family : Family) where
   sockets-after (Open name group filter) sockets may all =
       All-push (IsSocketOf family) sockets (record { name = name; group = group; filter = filter }) all (record { group = may.0.own; filter = may.1 })
   sockets-after (Change name filter) sockets may all =
-      All-refiltered (IsSocketOf family) name filter sockets
-      (All-weaker (IsSocketOf family) (λ one. has_name name one ≡ true → IsSocketOf family (with_filter filter one)) (λ one is named. record { group = is.group; filter = may }) sockets all) all
+      All-map (IsSocketOf family) (refiltered name filter) sockets
+      (All-weaker (IsSocketOf family) (λ socket. IsSocketOf family (refiltered name filter socket)) (λ socket is.
+      cond_both (same_name name socket.name) _ _ (IsSocketOf family) (λ _. record { group = is.group; filter = may }) (λ _. is)) sockets all)
   sockets-after (Close name) sockets may all = All-filter (λ socket. not (same_name name socket.name)) (IsSocketOf family) sockets all
   sockets-after LeaveAll sockets may all = All-nil (IsSocketOf family)
 

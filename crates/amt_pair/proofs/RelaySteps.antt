@@ -1,15 +1,15 @@
 -- What the relay answers: which datagrams make an entry in its log, and which it sends. One that sends something enters
 -- nothing.
-use Rattle.std.proofs.{Common.{◌≡◌, ◌≢◌, ℕ, ◌≤◌, ◌<◌, ◌^◌, ◌⊎◌, nat_lt, if◌then◌else◌, Bool, true, false, List, [], ◌∷◌, length, All, Option, Some, None, Result, Ok, Err, refl, ap, subst, arith, inl, inr}, lemmas.{Bool.{ltb-false}, List.Elements.{All-cons, All-nil}}}
+use Rattle.std.proofs.{Common.{◌≡◌, ◌≢◌, ℕ, ◌≤◌, ◌<◌, ◌^◌, ◌⊎◌, nat_lt, if◌then◌else◌, Bool, true, false, List, [], ◌∷◌, length, All, Option, Some, None, Result, Ok, Err, refl, ap, subst, arith, inl, inr}, lemmas.{Bool.{ltb-false}, List.Elements.{All-cons, All-nil, All-weaker}}}
 use Rattle.amt_values.specs.{Endpoint.{endpoint_of}, EndpointValue.{EndpointValue}, declared.{mac.Mac48.{Mac48}, peer.Peer.{Peer}}}
 use Rattle.amt_messages.specs.{Layout.{spelling_of}, Messages.{IsGateway}, Refusal.{message_of}, declared.{message.Message.{Message, TheVariants.{Discovery, Advertisement, Request, Update, Multicast, Teardown}}, refusal.Refused.{Refused}}}
 use Rattle.inner_datagrams.specs.{Head.{head_of}, declared.head.Head.{Head}}
-use Rattle.response_mac.specs.{ResponseMac.{is_good}, declared.{secret.Secret.{Secret}, secrets.Secrets.{Secrets}}}
+use Rattle.response_mac.specs.{ResponseMac.{SecretsValue, is_good}, declared.secret.Secret.{Secret}}
 use Rattle.source_filter.specs.declared.record.Record.{Record}
 use Rattle.endpoint_membership.specs.{Memberships.{is_live}, Table.{limit_passed, memberships_now}, declared.{change.Change.{Change, TheVariants.{Clear, Reported}}, limits.LimitFault.{LimitFault}}}
-use Rattle.relay_machine.specs.{Accepted.{accepted_log, change_of, handed_out}, Answers.{answer_of, sends_of}, EventAnswer.{EventAnswer, datagram_answer, entered, is_limited, limited_answer, message_answer, packet_answer, quiet, replied, teardown_answer, update_answer}, EventSize.{IsPayload}, Events.{now_of, secrets_of}}
-use Rattle.relay_machine.specs.{Packets.{by_head, copies, head_to_copy, targets_at}, Queries.{query_for}, Settings.{AreLawfulSettings, table_settings_of}, Updates.{forwardable_records, report_in}, declared.{event.Event.{Event, TheVariants.{Moment, Datagram, Packet, Rotate}}, number_key.NumberKey.TheVariants.{PacketLimit}, outcome.{Outcome.{Outcome, TheVariants.{TooBig}}, Unlawful.{Unlawful}}, settings.Settings.{Settings}}}
-use Rattle.amt_pair.{specs.Schedule.{Upward, delivery_up}, proofs.{DownDatagrams.{IsDown, down-advertisement, down-copy, down-query}, SpelledKinds.{gateway-of, small-nonce}, Upwards.{IsUpward}}}
+use Rattle.relay_machine.specs.{Accepted.{accepted_log, change_of, handed_out}, Answers.{answer_of, sends_of}, EventAnswer.{EventAnswer, datagram_answer, entered, is_limited, limited_answer, message_answer, packet_answer, quiet, replied, teardown_answer, update_answer}, EventSize.{IsPayload}, Events.{limits_at, now_of, secrets_of, settings_at}}
+use Rattle.relay_machine.specs.{Packets.{by_head, copies, head_to_copy, targets_at}, Queries.{query_for}, Settings.{AreLawfulSettings, table_settings_of}, Updates.{forwardable_records, report_in}, declared.{event.Event.{Event, TheVariants.{Moment, Datagram, Packet, Rotate, Limits}}, number_key.NumberKey.TheVariants.{PacketLimit}, outcome.{Outcome.{Outcome, TheVariants.{TooBig}}, Unlawful.{Unlawful}}, settings.Settings.{Settings}}}
+use Rattle.amt_pair.{specs.Schedule.{Upward, delivery_up}, proofs.{DownDatagrams.{IsDown, down-advertisement, down-copy, down-limits, down-query}, SpelledKinds.{gateway-of, small-nonce}, Upwards.{IsUpward}}}
 
 -- ---- which datagrams make an entry
 
@@ -85,7 +85,7 @@ module _ (settings : Settings) where
     answered-teardown true true named kind = answered-entry _ (Clear named moment) kind
     answered-teardown true false named kind = answered-entry _ (Clear named moment) kind
 
-  module _ (secrets : Secrets) (moment : ℕ) (log : List Change) where
+  module _ (secrets : SecretsValue) (moment : ℕ) (log : List Change) where
     answered-message : (source : EndpointValue) (message : Message) → IsAnswered (Some source) (Ok message) moment (message_answer settings secrets moment log source message)
     answered-message source (Discovery nonce) =
         answered-reply _ _ moment _ source (Advertisement nonce settings.relay) (λ fits. down-advertisement settings source nonce settings.relay)
@@ -141,15 +141,18 @@ module _ (settings : Settings) (first : Secret) (events : List Event) where
       (size-by (nat_lt settings.packet_limit (length bytes)) (TooBig (length bytes)) (by_head (head_of bytes)) head is) in
       omega arith)
 
-  answered : (bytes : List ℕ) (from : Peer) → IsAnswered settings (endpoint_of from) (message_of bytes) (now_of events) (answer_of settings first events (Datagram bytes from))
-  answered bytes from = answered-datagram settings (secrets_of first events) (now_of events) (accepted_log settings first events) (endpoint_of from) (message_of bytes)
+  answered : (bytes : List ℕ) (from : Peer) → IsAnswered (settings_at settings events) (endpoint_of from) (message_of bytes) (now_of events) (answer_of settings first events (Datagram bytes from))
+  answered bytes from =
+      answered-datagram (settings_at settings events) (secrets_of settings first events) (now_of events) (accepted_log settings first events) (endpoint_of from) (message_of bytes)
 
   -- and on a datagram of a gateway
   pub down-delivery : (upward : Upward) → IsUpward upward → All (IsDown settings) (sends_of settings first events (delivery_up upward))
-  down-delivery upward is = (answered (spelling_of upward.sent.sending.message) upward.from).down (record {
-    nonce = λ v6 nonce read. small-nonce upward.sent.sending.message v6 nonce read;
-    source = λ source found. gateway-of upward.from source is.peer found;
-  })
+  down-delivery upward is =
+      All-weaker (IsDown (settings_at settings events)) (IsDown settings) (down-limits settings (limits_at settings events)) (sends_of settings first events (delivery_up upward))
+      ((answered (spelling_of upward.sent.sending.message) upward.from).down (record {
+        nonce = λ v6 nonce read. small-nonce upward.sent.sending.message v6 nonce read;
+        source = λ source found. gateway-of upward.from source is.peer found;
+      }))
 
   -- which entry it makes of one
   pub datagram-entry : (bytes : List ℕ) (from : Peer) (change : Change) → (answer_of settings first events (Datagram bytes from)).entry ≡ Some change
@@ -160,12 +163,14 @@ module _ (settings : Settings) (first : Secret) (events : List Event) where
   pub sender_payload : (event : Event) → sends_of settings first events event ≢ [] → IsPayload event
   sender_payload (Moment reported) some = absurd (some refl)
   sender_payload (Rotate secret) some = absurd (some refl)
+  sender_payload (Limits limits) some = absurd (some refl)
   sender_payload (Packet bytes) some = tt
   sender_payload (Datagram bytes from) some = tt
 
   sender_entry : (event : Event) → sends_of settings first events event ≢ [] → (answer_of settings first events event).entry ≡ None
   sender_entry (Moment reported) some = absurd (some refl)
   sender_entry (Rotate secret) some = refl
+  sender_entry (Limits limits) some = refl
   sender_entry (Packet bytes) some =
       packet-entry (targets_at (table_settings_of settings) (accepted_log settings first events) (now_of events)) bytes (head_to_copy settings.packet_limit bytes)
   sender_entry (Datagram bytes from) some = (answered bytes from).apart some

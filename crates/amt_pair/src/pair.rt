@@ -59,7 +59,7 @@ impl Pair {
     ghost use Rattle.endpoint_membership.specs.Admission.{rows_admit};
     ghost use Rattle.group_records.specs.Written.{is_of_family};
     ghost use Rattle.gateway_machine.specs.{Events.{IsEventOf}, Runs.{settings_of}};
-    ghost use Rattle.relay_machine.specs.{Answers.{rows_after}, EventSize.{IsEvent}, Settings.{AreLawfulSettings}, declared.settings.Settings.{Settings as SettingsValue}};
+    ghost use Rattle.relay_machine.specs.{Answers.{rows_after, settings_of as relay_settings_of}, EventSize.{IsEvent}, Settings.{AreLawfulSettings}, declared.settings.Settings.{Settings as SettingsValue}};
     ghost use Rattle.response_mac.specs.declared.secret.Secret.{Secret as SecretValue};
     ghost use Rattle.socket_merge.specs.FullReport.{family_by};
     ghost use Rattle.amt_pair.specs.{Agreement.{CountsInTime, IsActive, IsHeard, IsInTime, wants_now}, Parts.{gateway_part, parts_of, relay_step}, Schedule.{FitsItsType, MayCome, Member, Upward, course_of, with_pair_event, with_relay_event}, Sent.{SentReport}};
@@ -212,7 +212,7 @@ impl Pair {
     // The relay takes one event. The datagrams that it sends are kept before the answer; where there are any
     // the relay is as before, so that nothing changes where memory runs out.
     fn take_at_relay(&mut self, alloc: Global, event: &Event) -> Result<PairStep, AllocError>
-        requires { IsEvent event.now }
+        requires { IsEvent (relay_settings_of self.old.relay) event.now }
         ensures parts { ForCourse self.old (λ setup course. IfOk result (λ step.
             step.parts ≡ RelayPart (relay_step setup course event.now) ∷ [])) }
         ensures next { ForCourse self.old (λ setup course. (by : Option Upward) → IfOk result (λ _.
