@@ -9,7 +9,7 @@ use Rattle.socket_merge.specs.{Changes.{change_records}, FullReport.{is_quiet}, 
 use Rattle.gateway_machine.specs.Answers.{Answer, accepted_answer, advertisement_answer, answer_at as answer_to_moment, ask, asked_relay, begin_with, call_by, cause_heard, changed_answer, datagram_answer, due_answer, event_answer, fields_heard, history_after, if_accepted, is_idle, is_opening, joined_relay, packet_by, query_accepted, query_by, query_kept, quiet, refusal_at, same_peer}
 use Rattle.gateway_machine.specs.{Exchange.{active, moved, relay_named, requesting, retried, with_next_nonce}, General.{general_query_in}, Laws.{HasQuery, HasRelay}, Reports.{full_records, full_report, teardown, update}, Runs.{Run, run_of}, Settings.{HasSourceOfFamily, family_of}, Timing.{farewell_ms, last_lifetime, lifetime_of}}
 use Rattle.gateway_machine.specs.declared.{event.GatewayEvent.{GatewayEvent, TheVariants.{Moment, Nonce as Draws, Datagram, Open as Opens, Change as GetsFilter, Close as Closes, LeaveAll as LeavesAll}}, exchange.{Exchange.{Exchange}, GatewayState.{GatewayState, TheVariants.{Idle as InIdle, Discovering as InDiscovering, Requesting as InRequesting, Active as InActive}}, LastQuery.{LastQuery}}}
-use Rattle.gateway_machine.{specs.declared.{outcome.{GatewayOutcome.{GatewayOutcome, TheVariants.{Drawn}}, Ignored.{Ignored}, SocketRefusal.{SocketRefusal}}, settings.GatewaySettings.{GatewaySettings}}, proofs.{Runs.{run_of-append, run_of-nil}, SoundRuns.{query-is-kept, relay-is-known}}}
+use Rattle.gateway_machine.{specs.declared.{outcome.{GatewayOutcome.{GatewayOutcome, TheVariants.{Drawn}}, Ignored.{Ignored}, SocketRefusal.{SocketRefusal}}, settings.GatewaySettings.{GatewaySettings}}, proofs.{Runs.{run_of-append, run_of-nil}, SoundRuns.{run-sound}}}
 use Rattle.amt_pair.{specs.{Events.{MayHappen}, Sent.{SentReport}}, proofs.{Courses.{later_by}, Histories.{IsHistoryOf, IsHistoryOf-next, IsHistoryOf-none, MayCall}, ReportedAddresses.{MayStand}, ReportedRecords.{changed-is, changed-some, full-is, unchanged}}}
 use Rattle.amt_pair.proofs.StepReports.{MayBeSent, changed-may_be_sent, full-may_be_sent, reported, reports-append, reports-request, reports-teardown, reports-update, reports_in, send-is}
 use Rattle.amt_pair.proofs.{Tunnel.{Tunnel, is_active, keep_of, report_now, reports_on, see}, TunnelReports.{IsForwarded, IsOrderly, orderly-asked, orderly-changed, orderly-kept, orderly-later}}
@@ -280,4 +280,4 @@ module _ (OfRelay : Type 0) (lifetime : ℕ) (settings : GatewaySettings) where
         let before = run_of settings first events in
         subst (λ (one : Run). IsTelling (later_by (moment_passed event) moment) one.exchange one.history (reports_on settings before event ++ reports))
         (sym (run_of-append settings first events event))
-        (told own moment before.exchange before.history reports run (relay-is-known settings first events) (query-is-kept settings first events) event may states)
+        (told own moment before.exchange before.history reports run (run-sound settings first events).relay (run-sound settings first events).query event may states)
