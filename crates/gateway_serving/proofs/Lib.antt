@@ -1,15 +1,13 @@
 pub mod Lawful
+mod Askings
 mod Beginning
-mod Few
 mod FewSends
-mod Hearing
 mod Lines
 mod Running
 mod Sending
+mod Stages
 mod Starving
 mod Stepping
-mod Taking
-mod ControlLines
+mod Traces
 mod Trying
-mod Turning
 mod WholeRuns

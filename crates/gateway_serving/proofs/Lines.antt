@@ -1,39 +1,24 @@
 -- What becomes of one line of the control feed.
-use Rattle.std.proofs.Common.{ℕ, Bool, List, [], ◌∷◌, sym, subst}
-use Rattle.gateway_machine.specs.declared.event.GatewayEvent.{GatewayEvent}
-use Rattle.gateway_script.specs.SocketLine.{IsSocketLine}
-use Rattle.amt_ports.specs.Devices.{LinkSeen, OutSeen}
-use Rattle.socket_merge.specs.FullReport.{family_by}
-use Rattle.gateway_serving.{specs.{Hearing.{HearsControlLine}, Servers.{AtWork, IsAlike, Takes, Tallies, at_work, counts_in}, Turns.{Bad, Called, Starved}, declared.server.Server.{Server}}, proofs.Taking.{Takes-from, Takes-none, Tallies-then, seen_same}}
+use Rattle.std.{proofs.Common.{◌≡◌, Bool, true, false, List, ℕ, refl, subst, arith}, specs.Prelude.{Result}}
+use Rattle.amt_ports.specs.{Bursts.{AnswerKinds}, declared.end.End.{End}}
+use Rattle.gateway_machine.specs.{Settings.{family_of}, declared.event.GatewayEvent.{GatewayEvent}}
+use Rattle.gateway_serving.{specs.{Askings.{AskedSo}, Servers.{Setup, family_in}, Stages.{ReadsLine}, Traces.{AtWork, WorkDoes, World, by_control, nothing, offering}, Turns.{Called, ControlAnswer, MayBecome, Starved}}, proofs.Traces.{Does-at, Does-then}}
 
-module _ (server : Server) (link : LinkSeen) (out : OutSeen) (bytes : List ℕ) where
-  module _ (counted : Server) (alike : IsAlike server counted) (line : Tallies (counts_in server) (counts_in counted) 0 1 0 0) where
-    -- it makes a socket call, which memory took
-    pub line_called : (after : AtWork) (event : GatewayEvent) → IsSocketLine (family_by server.v6) event bytes → Takes (at_work counted link out) after (event ∷ [])
-        → Tallies (counts_in counted) (counts_in after.server) 0 0 0 0 → HearsControlLine bytes (at_work server link out) after
-    line_called after event is takes tallies = record {
-      line = Called event;
-      may = subst (λ (v6 : Bool). IsSocketLine (family_by v6) event bytes) (sym server.family) is;
-      takes = Takes-from (at_work server link out) (at_work counted link out) after (event ∷ []) alike (seen_same server counted link out) takes;
-      tallies = Tallies-then (counts_in server) (counts_in counted) (counts_in after.server) 0 1 0 0 0 0 0 0 line tallies;
-    }
+-- it makes a socket call, which memory took, or refused
+pub line_called : {before counted after : AtWork} (bytes : List ℕ) (event : GatewayEvent) (starved : Bool) → MayBecome (family_in before.server) bytes (Called event)
+    → WorkDoes (record nothing { controls = 1; tally = 1 }) before counted → WorkDoes (offering starved event) counted after → ReadsLine bytes before after
+line_called bytes event false is counts offers = record {
+  line = Called event;
+  may = is;
+  does = λ around. Does-at (Does-then (counts around) (offers around)) refl refl refl refl refl (λ _. refl) refl refl refl refl (omega arith);
+}
+line_called bytes event true is counts offers = record {
+  line = Starved;
+  may = tt;
+  does = λ around. Does-at (Does-then (counts around) (offers around)) refl refl refl refl refl (λ _. refl) refl refl refl refl (omega arith);
+}
 
-    -- memory refused to read it
-    pub line_unread : (last : Server) → IsAlike counted last → Tallies (counts_in counted) (counts_in last) 0 0 0 1 → HearsControlLine bytes (at_work server link out) (at_work last link out)
-    line_unread last still more = record {
-      line = Starved;
-      may = tt;
-      takes = Takes-from (at_work server link out) (at_work counted link out) (at_work last link out) [] alike (seen_same server counted link out)
-          (Takes-none (at_work counted link out) (at_work last link out) still (seen_same counted last link out));
-      tallies = Tallies-then (counts_in server) (counts_in counted) (counts_in last) 0 1 0 0 0 0 0 1 line more;
-    }
-
-  -- it makes none
-  pub line_bad : (last : Server) → ((event : GatewayEvent) → IsSocketLine (family_by server.v6) event bytes → ⊥) → IsAlike server last → Tallies (counts_in server) (counts_in last) 0 1 1 0
-      → HearsControlLine bytes (at_work server link out) (at_work last link out)
-  line_bad last never alike tallies = record {
-    line = Bad;
-    may = subst (λ (v6 : Bool). (event : GatewayEvent) → IsSocketLine (family_by v6) event bytes → ⊥) (sym server.family) never;
-    takes = Takes-none (at_work server link out) (at_work last link out) alike (seen_same server last link out);
-    tallies = tallies;
-  }
+-- the family is that of the settings, which stay
+pub same_family : {R : Type 0} {Ends : AnswerKinds ControlAnswer → End → Result R End → List ControlAnswer → Type 0} {setup setup' : Setup} {before after : World} {result : Result R End} → setup' ≡ setup
+    → AskedSo (by_control (family_of setup'.settings)) Ends before after result → AskedSo (by_control (family_of setup.settings)) Ends before after result
+same_family {Ends = Ends} {before = before} {after = after} {result = result} same asked = subst (λ (setup : Setup). AskedSo (by_control (family_of setup.settings)) Ends before after result) same asked

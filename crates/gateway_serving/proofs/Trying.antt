@@ -1,9 +1,9 @@
--- One datagram more that a link or an out tried, and what is counted of it.
-use Rattle.std.{proofs.{Common.{◌≡◌, ℕ, ◌+◌, ◌<◌, List, [], ◌∷◌, ◌++◌, length, get_or, map, take, refl, sym, ap, subst, ◌∙◌, arith}, lemmas.List.{take_more, map-append}}, specs.Prelude.{IsSome, OnOk, Option, Some, Result, Ok, Err, is_ok}}
-use Rattle.amt_ports.{specs.{Causes.{HasCause}, Sends.{TriedSend, tried_send}, Told.{Appends}, declared.fault.Failed.{Failed}, Devices.{LinkSeen, OutSeen}, Tried.{HasTried}}, proofs.Trying.{HasTried-failed, HasTried-none, HasTried-sent}}
+-- What is tried for sends and packets, and then for more.
+use Rattle.std.{proofs.{Common.{◌≡◌, ℕ, ◌+◌, ◌<◌, ◌≤◌, not, Bool, true, false, List, [], ◌∷◌, ◌++◌, length, get_or, map, take, refl, sym, ap, subst, ◌∙◌, arith}, lemmas.List.{take_more, map-append}}, specs.Prelude.{IsSome, OnOk, Option, Some, Result, Ok, Err, is_ok}}
+use Rattle.amt_ports.{specs.{Causes.{HasCause}, Sends.{TriedSend, tried_send}, Told.{Appends}, declared.fault.Failed.{Failed}, Devices.{LinkSeen, OutSeen}, Tried.{HasTried}}, proofs.Trying.{HasTried-failed, HasTried-none, HasTried-sent, HasTried-then}}
 use Rattle.amt_values.specs.declared.peer.Peer.{Peer}
 use Rattle.gateway_machine.specs.declared.step.PeerSend.{PeerSend}
-use Rattle.gateway_serving.specs.{Sending.{delivery_to, to_peer}, Servers.{Tallies}, Taking.{HasHandedOn, HasSent}, declared.counts.Counts.{Counts}}
+use Rattle.gateway_serving.specs.{Counting.{one_if, with_send}, Sending.{delivery_to, to_peer}, Taking.{HasSent}, declared.counts.Counts.{Counts}}
 
 pub sends_more : (sends : List PeerSend) (place : ℕ) (send : PeerSend) (bytes : List ℕ) → place < length sends → send ≡ get_or sends place send → bytes ≡ send.bytes
     → map to_peer (take place sends) ++ (send.to, bytes) ∷ [] ≡ map to_peer (take (place + 1) sends)
@@ -12,108 +12,87 @@ sends_more sends place send bytes within is same =
     ∙ sym (map-append to_peer (take place sends) (send ∷ []))
     ∙ ap (map to_peer) (ap (λ (one : PeerSend). take place sends ++ one ∷ []) is ∙ sym (take_more sends place send within))
 
-module _ (before now after : Option (List TriedSend)) (first middle last : ℕ) (wanted : List (Peer × List ℕ)) (sent unsent : ℕ) (to : Peer) (bytes : List ℕ) (result : Result (Unit {0}) Failed) where
-  -- it was taken
-  pub tried_taken : (unit : Unit {0}) → result ≡ Ok unit → HasTried before now first middle wanted sent unsent → Appends now after (tried_send to bytes result)
-      → OnOk result (IsSome now → IsSome after) → HasCause middle last result → HasTried before after first last (wanted ++ (to, bytes) ∷ []) (sent + 1) unsent
-  tried_taken unit fine tried more tells cause =
-      HasTried-sent before now after first middle last wanted sent unsent to bytes result (ap is_ok fine) tried more
-      (subst (λ (one : Result (Unit {0}) Failed). OnOk one (IsSome now → IsSome after)) fine tells)
-      ((subst (λ (one : Result (Unit {0}) Failed). HasCause middle last one) fine cause).quiet)
+-- one datagram, which the device took or didn't
+tried_one : (before after : Option (List TriedSend)) (faults faults' : ℕ) (to : Peer) (bytes : List ℕ) (result : Result (Unit {0}) Failed) → Appends before after (tried_send to bytes result)
+    → OnOk result (IsSome before → IsSome after) → HasCause faults faults' result → HasTried before after faults faults' ((to, bytes) ∷ []) (one_if (is_ok result)) (one_if (not (is_ok result)))
+tried_one before after faults faults' to bytes (Ok unit) more tells cause =
+    HasTried-sent before before after faults faults faults' [] 0 0 to bytes (Ok unit) refl (HasTried-none before faults) more tells cause.quiet
+tried_one before after faults faults' to bytes (Err fault) more tells cause =
+    HasTried-failed before before after faults faults faults' [] 0 0 to bytes (Err fault) refl (HasTried-none before faults) more cause.failed cause.later
 
-  -- it wasn't
-  pub tried_failed : (fault : Failed) → result ≡ Err fault → HasTried before now first middle wanted sent unsent → Appends now after (tried_send to bytes result)
-      → HasCause middle last result → HasTried before after first last (wanted ++ (to, bytes) ∷ []) sent (unsent + 1)
-  tried_failed fault failed tried more cause =
-      HasTried-failed before now after first middle last wanted sent unsent to bytes result (ap is_ok failed) tried more
-      ((subst (λ (one : Result (Unit {0}) Failed). HasCause middle last one) failed cause).failed) cause.later
-
-one_less : (before now after more : ℕ) → now ≡ before + more → after ≡ now + 1 → after ≡ before + (more + 1)
-one_less before now after more is then = omega (arith, is, then)
-
-module _ (link now after : LinkSeen) (counts before counts' : Counts) (wanted : List (Peer × List ℕ)) (to : Peer) (bytes : List ℕ) (result : Result (Unit {0}) Failed) where
-  -- the link took it
-  pub HasSent-taken : (unit : Unit {0}) → result ≡ Ok unit → HasSent link now counts before wanted → Appends now.tried after.tried (tried_send to bytes result)
-      → OnOk result (IsSome now.tried → IsSome after.tried) → HasCause now.send_faults after.send_faults result → counts'.delivered ≡ before.delivered → counts'.unsent ≡ before.unsent
-      → HasSent link after counts counts' (wanted ++ (to, bytes) ∷ [])
-  HasSent-taken unit fine has more tells cause delivered unsent = record {
-    sent = has.sent + 1;
-    unsent = has.unsent;
-    tried = tried_taken link.tried now.tried after.tried link.send_faults now.send_faults after.send_faults wanted has.sent has.unsent to bytes result unit fine has.tried more tells cause;
-    delivered_are = delivered ∙ has.delivered_are;
-    unsent_are = unsent ∙ has.unsent_are;
-  }
-
-  -- it didn't
-  pub HasSent-failed : (fault : Failed) → result ≡ Err fault → HasSent link now counts before wanted → Appends now.tried after.tried (tried_send to bytes result)
-      → HasCause now.send_faults after.send_faults result → counts'.delivered ≡ before.delivered → counts'.unsent ≡ before.unsent + 1
-      → HasSent link after counts counts' (wanted ++ (to, bytes) ∷ [])
-  HasSent-failed fault failed has more cause delivered unsent = record {
-    sent = has.sent;
-    unsent = has.unsent + 1;
-    tried = tried_failed link.tried now.tried after.tried link.send_faults now.send_faults after.send_faults wanted has.sent has.unsent to bytes result fault failed has.tried more cause;
-    delivered_are = delivered ∙ has.delivered_are;
-    unsent_are = one_less counts.unsent before.unsent counts'.unsent has.unsent has.unsent_are unsent;
-  }
-
-no_more : (before after : ℕ) → after ≡ before → after ≡ before + 0
-no_more before after same = omega (arith, same)
-
--- nothing was tried yet
-pub HasSent-none : (link : LinkSeen) (counts : Counts) → HasSent link link counts counts []
-HasSent-none link counts = record {
-  sent = 0;
-  unsent = 0;
-  tried = HasTried-none link.tried link.send_faults;
-  delivered_are = refl;
-  unsent_are = omega arith;
+-- a link's send, and an out's
+pub sent_one : {link link' : LinkSeen} {counts counts' : Counts} (out : OutSeen) (to : Peer) (bytes : List ℕ) (result : Result (Unit {0}) Failed) (taken : Bool) → taken ≡ is_ok result → counts' ≡ with_send taken counts
+    → Appends link.tried link'.tried (tried_send to bytes result) → OnOk result (IsSome link.tried → IsSome link'.tried) → HasCause link.send_faults link'.send_faults result
+    → HasSent link link' out out counts counts' ((to, bytes) ∷ []) []
+sent_one {link} {link'} {counts} {counts'} out to bytes result taken fine counted more tells cause = let is = subst (λ (one : Bool). counts' ≡ with_send one counts) fine counted in record {
+  link_sent = one_if (is_ok result);
+  link_unsent = one_if (not (is_ok result));
+  sent = tried_one link.tried link'.tried link.send_faults link'.send_faults to bytes result more tells cause;
+  out_sent = 0;
+  out_unsent = 0;
+  handed = HasTried-none out.tried out.faults;
+  delivered_are = omega (arith, ap (λ (one : Counts). one.delivered) is);
+  unsent_are = omega (arith, ap (λ (one : Counts). one.unsent) is);
 }
 
-module _ (out after : OutSeen) (counts counts' : Counts) (to : Peer) (bytes : List ℕ) (result : Result (Unit {0}) Failed) where
-  -- the out took the packet
-  pub HasHandedOn-taken : (unit : Unit {0}) → result ≡ Ok unit → Appends out.tried after.tried (tried_send to bytes result)
-      → OnOk result (IsSome out.tried → IsSome after.tried) → HasCause out.faults after.faults result → counts'.delivered ≡ counts.delivered + 1 → counts'.unsent ≡ counts.unsent
-      → HasHandedOn out after counts counts' ((to, bytes) ∷ [])
-  HasHandedOn-taken unit fine more tells cause delivered unsent = record {
-    sent = 1;
-    unsent = 0;
-    tried = tried_taken out.tried out.tried after.tried out.faults out.faults after.faults [] 0 0 to bytes result unit fine (HasTried-none out.tried out.faults) more tells cause;
-    delivered_are = delivered;
-    unsent_are = no_more counts.unsent counts'.unsent unsent;
-  }
+one_of : (taken : Bool) → one_if taken + one_if (not taken) ≡ 1
+one_of true = refl
+one_of false = refl
 
-  -- it didn't
-  pub HasHandedOn-failed : (fault : Failed) → result ≡ Err fault → Appends out.tried after.tried (tried_send to bytes result)
-      → HasCause out.faults after.faults result → counts'.delivered ≡ counts.delivered + 1 → counts'.unsent ≡ counts.unsent + 1
-      → HasHandedOn out after counts counts' ((to, bytes) ∷ [])
-  HasHandedOn-failed fault failed more cause delivered unsent = record {
-    sent = 0;
-    unsent = 1;
-    tried = tried_failed out.tried out.tried after.tried out.faults out.faults after.faults [] 0 0 to bytes result fault failed (HasTried-none out.tried out.faults) more cause;
-    delivered_are = delivered;
-    unsent_are = unsent;
-  }
-
--- there is no packet
-pub HasHandedOn-none : (out : OutSeen) (counts : Counts) → HasHandedOn out out counts counts []
-HasHandedOn-none out counts = record {
-  sent = 0;
-  unsent = 0;
-  tried = HasTried-none out.tried out.faults;
-  delivered_are = omega arith;
-  unsent_are = omega arith;
+pub handed_one : {out out' : OutSeen} {counts counts' : Counts} (link : LinkSeen) (to : Peer) (bytes : List ℕ) (result : Result (Unit {0}) Failed) (taken : Bool) → taken ≡ is_ok result
+    → counts' ≡ with_send taken (record counts { delivered = counts.delivered + 1 })
+    → Appends out.tried out'.tried (tried_send to bytes result) → OnOk result (IsSome out.tried → IsSome out'.tried) → HasCause out.faults out'.faults result
+    → HasSent link link out out' counts counts' [] ((to, bytes) ∷ [])
+handed_one {out} {out'} {counts} {counts'} link to bytes result taken fine counted more tells cause = let is = subst (λ (one : Bool). counts' ≡ with_send one (record counts { delivered = counts.delivered + 1 })) fine counted in record {
+  link_sent = 0;
+  link_unsent = 0;
+  sent = HasTried-none link.tried link.send_faults;
+  out_sent = one_if (is_ok result);
+  out_unsent = one_if (not (is_ok result));
+  handed = tried_one out.tried out'.tried out.faults out'.faults to bytes result more tells cause;
+  delivered_are = omega (arith, ap (λ (one : Counts). one.delivered) is, one_of (is_ok result));
+  unsent_are = omega (arith, ap (λ (one : Counts). one.unsent) is);
 }
 
--- none of the tallies changed
-pub Tallies-still : (first before after : Counts) (datagrams controls bad_controls starved : ℕ)
-    → after.datagrams ≡ before.datagrams → after.controls ≡ before.controls → after.bad_controls ≡ before.bad_controls → after.starved ≡ before.starved
-    → Tallies first before datagrams controls bad_controls starved → Tallies first after datagrams controls bad_controls starved
-Tallies-still first before after datagrams controls bad_controls starved one two three four tallies = record {
-  datagrams_are = one ∙ tallies.datagrams_are;
-  controls_are = two ∙ tallies.controls_are;
-  bad_are = three ∙ tallies.bad_are;
-  starved_are = four ∙ tallies.starved_are;
+quiet_tried : (before after : Option (List TriedSend)) (faults faults' : ℕ) → after ≡ before → faults' ≡ faults → HasTried before after faults faults' [] 0 0
+quiet_tried before after faults faults' same same_faults =
+    subst (λ (lines : Option (List TriedSend)). HasTried before lines faults faults' [] 0 0) (sym same)
+    (subst (λ (count : ℕ). HasTried before before faults count [] 0 0) (sym same_faults) (HasTried-none before faults))
+
+-- nothing was tried
+pub HasSent-none : {link link' : LinkSeen} {out : OutSeen} {counts counts' : Counts} → link'.tried ≡ link.tried → link'.send_faults ≡ link.send_faults
+    → counts'.delivered ≡ counts.delivered → counts'.unsent ≡ counts.unsent → HasSent link link' out out counts counts' [] []
+HasSent-none {link} {link'} {out} same same_faults delivered unsent = record {
+  link_sent = 0;
+  link_unsent = 0;
+  sent = quiet_tried link.tried link'.tried link.send_faults link'.send_faults same same_faults;
+  out_sent = 0;
+  out_unsent = 0;
+  handed = HasTried-none out.tried out.faults;
+  delivered_are = omega (arith, delivered);
+  unsent_are = omega (arith, unsent);
 }
+
+-- sends and packets, and then more
+pub HasSent-then : {link now link' : LinkSeen} {out middle out' : OutSeen} {counts known counts' : Counts} {sends packets more others : List (Peer × List ℕ)}
+    → HasSent link now out middle counts known sends packets → HasSent now link' middle out' known counts' more others → HasSent link link' out out' counts counts' (sends ++ more) (packets ++ others)
+HasSent-then first second = record {
+  link_sent = first.link_sent + second.link_sent;
+  link_unsent = first.link_unsent + second.link_unsent;
+  sent = HasTried-then _ _ _ _ _ _ _ _ _ _ _ _ first.sent second.sent;
+  out_sent = first.out_sent + second.out_sent;
+  out_unsent = first.out_unsent + second.out_unsent;
+  handed = HasTried-then _ _ _ _ _ _ _ _ _ _ _ _ first.handed second.handed;
+  delivered_are = omega (arith, first.delivered_are, second.delivered_are);
+  unsent_are = omega (arith, first.unsent_are, second.unsent_are);
+}
+
+pub few_more : (before after : Counts) (taken : Bool) → after ≡ with_send taken before → after.unsent ≤ before.unsent + 1
+few_more before after taken is = omega (arith, ap (λ (one : Counts). one.unsent) is, one_of taken)
+
+-- nothing was counted but what wasn't taken
+pub keeps : {before after : Counts} (counts : Counts) (taken : Bool) → after ≡ with_send taken before → before ≡ record counts { unsent = before.unsent } → after ≡ record counts { unsent = after.unsent }
+keeps counts taken is same = is ∙ ap (with_send taken) same ∙ sym (ap (λ (one : Counts). record counts { unsent = one.unsent }) is)
 
 -- a packet that is there
 pub handed_to : (peer : Peer) (packet : Option (List ℕ)) (there bytes : List ℕ) → packet ≡ Some there → bytes ≡ there → (peer, bytes) ∷ [] ≡ delivery_to peer packet

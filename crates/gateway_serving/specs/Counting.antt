@@ -1,5 +1,5 @@
 -- What is counted of a run.
-use Rattle.std.specs.Prelude.{◌≡◌, ℕ, ◌+◌, Bool, true, false, List, count_by, sum_by, Option, None, Some}
+use Rattle.std.specs.Prelude.{◌≡◌, ℕ, ◌+◌, Bool, true, false, not, if◌then◌else◌, List, count_by, sum_by, Option, None, Some}
 use Rattle.amt_ports.specs.declared.{feed.FeedAnswer.{FeedAnswer, TheVariants.{Packet, Nothing as NothingFed, Closed as FeedClosed}}, link.LinkAnswer.{LinkAnswer, TheVariants.{Datagram, Nothing as NothingCame, Closed as LinkClosed}}}
 use Rattle.gateway_serving.specs.{Turns.{Bad, Called, Line, Starved, Turn}, declared.counts.Counts.{Counts}}
 
@@ -49,3 +49,22 @@ pub record AreCounted (turns : List Turn) (datagrams controls bad_controls starv
 
 abbrev pub no_counts : Counts
 no_counts = record { datagrams = 0; controls = 0; bad_controls = 0; delivered = 0; unsent = 0; starved = 0 }
+
+abbrev pub one_if : Bool → ℕ
+one_if condition = if condition then 1 else 0
+
+-- the counts after one send more, which the device took or didn't
+abbrev pub with_send : Bool → Counts → Counts
+with_send taken counts = record counts { unsent = counts.unsent + one_if (not taken) }
+
+-- the counts after one more that memory refused
+abbrev pub with_starved : Counts → Counts
+with_starved counts = record counts { starved = counts.starved + 1 }
+
+-- so many more datagrams and lines were taken, of which so many lines are bad, and so many of the answers were
+-- refused by memory
+pub record Tallies (before after : Counts) (datagrams controls bad_controls starved : ℕ) : Type 0 where
+  pub datagrams_are : after.datagrams ≡ before.datagrams + datagrams
+  pub controls_are : after.controls ≡ before.controls + controls
+  pub bad_are : after.bad_controls ≡ before.bad_controls + bad_controls
+  pub starved_are : after.starved ≡ before.starved + starved

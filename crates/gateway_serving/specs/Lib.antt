@@ -1,9 +1,8 @@
+pub mod Askings
 pub mod Counting
 pub mod Courses
 pub mod Devices
 pub mod Events
-pub mod Hearing
-pub mod Openings
 pub mod Reports
 pub mod Runs
 pub mod Sending
@@ -13,4 +12,5 @@ pub mod Settings
 pub mod Stages
 pub mod Starving
 pub mod Taking
+pub mod Traces
 pub mod Turns

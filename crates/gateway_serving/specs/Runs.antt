@@ -82,15 +82,22 @@ pub data MayGo (config : GatewayConfig) (turns : ℕ) (end : End) (run : Run) : 
   unopened : length run.words ≡ 1 → end ≡ Memory → IsRefusedEarly config run → MayGo config turns end run
   served : length run.words ≡ 1 → HasTurns config turns end run → MayGo config turns end run
 
--- the words, the moments, and the answers of link and control feed, in order
+-- the words, the moments, and the answers of link and control feed in turns, in order
+abbrev pub words_drawn : List Turn → List ℕ
+words_drawn turns = flat_map (λ turn. turn.drawn) turns
+
+abbrev pub moments_given : List Turn → List ℕ
+moments_given turns = flat_map (λ turn. map (λ one. one.answer) turn.clock) turns
+
+abbrev pub link_answers : List Turn → List LinkAnswer
+link_answers turns = flat_map (λ turn. map (λ one. one.answer) turn.heard) turns
+
+abbrev pub control_answers : List Turn → List FeedAnswer
+control_answers turns = flat_map (λ turn. map (λ one. one.answer) turn.lines) turns
+
+-- the words and the moments of all of a run
 abbrev pub words_of : Run → List ℕ
-words_of run = run.words ++ flat_map (λ turn. turn.drawn) (turns_of run)
+words_of run = run.words ++ words_drawn (turns_of run)
 
 abbrev pub moments_of : Run → List ℕ
-moments_of run = run.moments ++ flat_map (λ turn. map (λ one. one.answer) turn.clock) (turns_of run)
-
-abbrev pub link_answers : Run → List LinkAnswer
-link_answers run = flat_map (λ turn. map (λ one. one.answer) turn.heard) (turns_of run)
-
-abbrev pub control_answers : Run → List FeedAnswer
-control_answers run = flat_map (λ turn. map (λ one. one.answer) turn.lines) (turns_of run)
+moments_of run = run.moments ++ moments_given (turns_of run)

@@ -12,8 +12,8 @@ pub record Serves (config : GatewayConfig) (turns : ℕ) (before after : Devices
   -- the devices' answers
   pub words : AppendsAll before.words.given after.words.given (words_of run)
   pub clock : AppendsAll before.clock after.clock (moments_of run)
-  pub link : AnswersAll LinkClosed before.link.coming after.link.coming (link_answers run)
-  pub control : AnswersAll FeedClosed before.control.coming after.control.coming (control_answers run)
+  pub link : AnswersAll LinkClosed before.link.coming after.link.coming (link_answers (turns_of run))
+  pub control : AnswersAll FeedClosed before.control.coming after.control.coming (control_answers (turns_of run))
   -- what was sent and handed on
   pub link_sent : ℕ
   pub link_unsent : ℕ

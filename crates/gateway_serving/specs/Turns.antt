@@ -1,5 +1,5 @@
 -- What the devices of a serving gateway answer, turn by turn.
-use Rattle.std.specs.Prelude.{◌≡◌, ℕ, ◌≤◌, max, List, [], ◌∷◌, length, Option, None, Some}
+use Rattle.std.specs.Prelude.{◌≡◌, ℕ, ◌≤◌, max, List, [], ◌∷◌, length, map, Option, None, Some}
 use Rattle.amt_ports.specs.{declared.{feed.FeedAnswer.{FeedAnswer, TheVariants.{Packet, Nothing as NothingFed, Closed as FeedClosed}}, link.LinkAnswer.{LinkAnswer, TheVariants.{Nothing as NothingCame, Closed as LinkClosed}}}, Answers.{IsDatagram, Taken, taken}, Bursts.{AnswerKinds, IsBurst}}
 use Rattle.gateway_machine.specs.declared.event.GatewayEvent.{GatewayEvent}
 use Rattle.gateway_script.specs.SocketLine.{IsSocketLine}
@@ -59,13 +59,13 @@ pub record Turn : Type 0 where
   pub lines : List ControlAnswer
 
 -- the latest of these moments, if this was the latest before them
-abbrev pub latest_of : ℕ → List (Taken ℕ) → ℕ
+abbrev pub latest_of : ℕ → List ℕ → ℕ
 latest_of latest [] = latest
-latest_of latest (one ∷ later) = latest_of (max latest one.answer) later
+latest_of latest (moment ∷ later) = latest_of (max latest moment) later
 
 -- the turn's moment: the latest that the clock has given so far
 abbrev pub moment_of_turn : ℕ → Turn → ℕ
-moment_of_turn latest turn = latest_of latest turn.clock
+moment_of_turn latest turn = latest_of latest (map (λ one. one.answer) turn.clock)
 
 -- one word was drawn, and one moment was given
 pub record HasBegun (turn : Turn) : Type 0 where

@@ -1,6 +1,6 @@
 //! What a running gateway counts.
-ghost use Rattle.std.specs.Prelude.{◌≡◌};
-ghost use Rattle.gateway_serving.specs.Counting.{no_counts};
+ghost use Rattle.std.specs.Prelude.{◌≡◌, ◌<◌, ◌-◌, ◌^◌};
+ghost use Rattle.gateway_serving.specs.Counting.{no_counts, with_send, with_starved};
 
 /// Counts since the run began.
 #[derive(Clone, Copy, Debug, PartialEq, Eq)]
@@ -31,5 +31,23 @@ impl Counts {
             unsent: 0,
             starved: 0,
         }
+    }
+
+    /// Counts a send that the device took or didn't.
+    pub(crate) fn count_send(&mut self, taken: bool)
+        requires { self.old.unsent < 2 ^ 64 - 1 }
+        ensures { self.new ≡ with_send taken self.old }
+    {
+        if !taken {
+            self.unsent += 1;
+        }
+    }
+
+    /// Counts an event or a line that memory refused.
+    pub(crate) fn count_starved(&mut self)
+        requires { self.old.starved < 2 ^ 62 }
+        ensures { self.new ≡ with_starved self.old }
+    {
+        self.starved += 1;
     }
 }

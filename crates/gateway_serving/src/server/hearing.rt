@@ -1,44 +1,15 @@
 //! How a running gateway hears its link.
-ghost use Rattle.std.specs.Prelude.{◌≡◌, ◌≤◌, ◌-◌, ◌^◌, [], ◌∷◌, length, IsErrOf, OnErr, OnOk};
+ghost use Rattle.std.specs.Prelude.{◌≡◌, ◌≤◌, ◌<◌, ◌+◌, ◌^◌, [], ◌∷◌, Bool, length};
 ghost use Rattle.gateway_machine.specs.declared.event.GatewayEvent.TheVariants.{Datagram as DatagramEvent};
-ghost use Rattle.amt_ports.specs.{Bursts.{AreAsked, AskedSo, IsNext}, EndCauses.{IsCausedBy}, Devices.{WaitsBriefly}};
-ghost use Rattle.gateway_serving.specs.{Devices.{link_at, out_at}, Hearing.{HearsOne}, Servers.{AreFew, GrowsBy, Hears, Takes, Tallies, at_work, counts_in, latest_in}, Turns.{from_link}};
+ghost use Rattle.gateway_serving.specs.{Askings.{AreAsked, IsNext}, Devices.{link_at, out_at}, Servers.{tally_in}, Traces.{HearsSo, WorkDoes, at_work, offering}};
 
 use super::Server;
 use amt_ports::{Asked, BURST, End, Got, Link, OutLink, WAIT_MS};
 use amt_values::{Bytes, Peer};
 use gateway_machine::GatewayEvent;
-use std::alloc::{AllocError, Global};
+use std::alloc::Global;
 
 impl Server {
-    // Takes a datagram. Where memory ran out nothing happened.
-    fn take_datagram<L: Link, O: OutLink>(
-        &mut self,
-        alloc: Global,
-        link: &mut L,
-        out: &mut O,
-        from: Peer,
-        bytes: &[u8],
-    ) -> Result<(), AllocError>
-        requires short { length bytes.now ≤ 65535 }
-        requires few { AreFew (2 ^ 61) self.old }
-        ensures takes { OnOk result (Takes (at_work self.old (link_at L.Link link.old) (out_at O.OutLink out.old))
-            (at_work self.new (link_at L.Link link.new) (out_at O.OutLink out.new)) (DatagramEvent from bytes.now ∷ [])) }
-        ensures none { OnErr result (Takes (at_work self.old (link_at L.Link link.old) (out_at O.OutLink out.old))
-            (at_work self.new (link_at L.Link link.new) (out_at O.OutLink out.new)) []) }
-        ensures tallies { Tallies (counts_in self.old) (counts_in self.new) 0 0 0 0 }
-        ensures latest { latest_in self.new ≡ latest_in self.old }
-        ensures coming { L.coming link.new ≡ L.coming link.old }
-        ensures faults { L.receive_faults link.new ≡ L.receive_faults link.old }
-        ensures waits { L.longest_wait link.new ≡ L.longest_wait link.old }
-    {
-        let event = GatewayEvent::Datagram {
-            from,
-            bytes: Bytes::copied(alloc, bytes)?,
-        };
-        self.take(alloc, &event, link, out)
-    }
-
     // Takes a datagram, and counts it; one that memory refused is counted, and isn't an event.
     fn hear_datagram<L: Link, O: OutLink>(
         &mut self,
@@ -49,19 +20,15 @@ impl Server {
         bytes: &[u8],
     )
         requires short { length bytes.now ≤ 65535 }
-        requires few { AreFew (2 ^ 61 - 1) self.old }
-        ensures hears { HearsOne from bytes.now
-            (at_work self.old (link_at L.Link link.old) (out_at O.OutLink out.old))
-            (at_work self.new (link_at L.Link link.new) (out_at O.OutLink out.new)) }
-        ensures latest { latest_in self.new ≡ latest_in self.old }
-        ensures coming { L.coming link.new ≡ L.coming link.old }
-        ensures faults { L.receive_faults link.new ≡ L.receive_faults link.old }
-        ensures waits { L.longest_wait link.new ≡ L.longest_wait link.old }
+        requires few { tally_in self.old + 1 < 2 ^ 61 }
+        ensures hears { (starved : Bool) × WorkDoes (record (offering starved (DatagramEvent from bytes.now)) { datagrams = 1; tally = 2 })
+            (at_work self.old (link_at L.Link link.old) (L.longest_wait link.old) (out_at O.OutLink out.old))
+            (at_work self.new (link_at L.Link link.new) (L.longest_wait link.new) (out_at O.OutLink out.new)) }
     {
         self.counts.datagrams += 1;
-        match self.take_datagram(alloc, link, out, from, bytes) {
-            Ok(()) => {}
-            Err(_) => self.count_starved(),
+        match Bytes::copied(alloc, bytes) {
+            Ok(bytes) => self.offer(alloc, &GatewayEvent::Datagram { from, bytes }, link, out),
+            Err(_) => self.counts.count_starved(),
         }
     }
 
@@ -74,17 +41,11 @@ impl Server {
         buf: &mut [u8],
     ) -> Result<Asked, End>
         requires room { 65536 ≤ length buf.old }
-        requires few { AreFew (2 ^ 61 - 1) self.old }
-        ensures hears { AskedSo Hears
-            (at_work self.old (link_at L.Link link.old) (out_at O.OutLink out.old))
-            (at_work self.new (link_at L.Link link.new) (out_at O.OutLink out.new))
-            (IsNext from_link result) }
-        ensures latest { latest_in self.new ≡ latest_in self.old }
-        ensures of_link { IsErrOf result End.FeedFault → ⊥ }
-        ensures cause { IsCausedBy result End.LinkFault (L.receive_faults link.old) (L.receive_faults link.new) }
-        ensures waits { WaitsBriefly (L.longest_wait link.old) (L.longest_wait link.new) }
-        ensures few { GrowsBy 1 self.old self.new }
-        ensures buffer { length buf.new ≡ length buf.old }
+        requires few { tally_in self.old + 1 < 2 ^ 61 }
+        ensures hears { HearsSo IsNext
+            (at_work self.old (link_at L.Link link.old) (L.longest_wait link.old) (out_at O.OutLink out.old))
+            (at_work self.new (link_at L.Link link.new) (L.longest_wait link.new) (out_at O.OutLink out.new))
+            (length buf.old) (length buf.new) result }
     {
         match link.recv(buf, WAIT_MS) {
             Ok(Got::Datagram(from, octets)) => {
@@ -106,17 +67,11 @@ impl Server {
         buf: &mut [u8],
     ) -> Result<(), End>
         requires room { 65536 ≤ length buf.old }
-        requires few { AreFew (2 ^ 61 - 64) self.old }
-        ensures hears { AskedSo Hears
-            (at_work self.old (link_at L.Link link.old) (out_at O.OutLink out.old))
-            (at_work self.new (link_at L.Link link.new) (out_at O.OutLink out.new))
-            (AreAsked from_link result) }
-        ensures latest { latest_in self.new ≡ latest_in self.old }
-        ensures of_link { IsErrOf result End.FeedFault → ⊥ }
-        ensures cause { IsCausedBy result End.LinkFault (L.receive_faults link.old) (L.receive_faults link.new) }
-        ensures waits { WaitsBriefly (L.longest_wait link.old) (L.longest_wait link.new) }
-        ensures few { GrowsBy 64 self.old self.new }
-        ensures buffer { length buf.new ≡ length buf.old }
+        requires few { tally_in self.old + 128 < 2 ^ 61 }
+        ensures hears { HearsSo AreAsked
+            (at_work self.old (link_at L.Link link.old) (L.longest_wait link.old) (out_at O.OutLink out.old))
+            (at_work self.new (link_at L.Link link.new) (L.longest_wait link.new) (out_at O.OutLink out.new))
+            (length buf.old) (length buf.new) result }
     {
         for _ in 0..BURST {
             match self.hear_next(alloc, link, out, buf)? {

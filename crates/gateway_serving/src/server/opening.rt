@@ -1,8 +1,7 @@
 //! How a running gateway begins: its machine, its first moment, and the joins of its settings.
 ghost use Rattle.std.specs.Prelude.{◌≡◌, ◌≤◌, ◌<◌, ◌+◌, ◌^◌, [], ◌∷◌, All, IfOk, OnErr, OnOk, length, map};
-ghost use Rattle.amt_ports.specs.Told.{Appends};
 ghost use Rattle.gateway_machine.specs.Events.{IsEventOf};
-ghost use Rattle.gateway_serving.specs.{Devices.{link_at, out_at}, Counting.{no_counts}, Events.{nonce_of}, Openings.{OpensSo}, Servers.{AreFew, GrowsBy, Takes, Tallies, at_work, counts_in, deliver_in, events_in, first_in, latest_in, settings_in}, Settings.{IsLawfulConfig, opening_of, settings_of}, Stages.{BeginsWith}};
+ghost use Rattle.gateway_serving.specs.{Devices.{link_at, out_at}, Counting.{no_counts}, Servers.{IsFresh, counts_in, events_in, latest_in, settings_in, tally_in}, Settings.{IsLawfulConfig, opening_of}, Stages.{BeginsWith, OpensSo}, Traces.{WorkDoes, at_work, nothing, taking}};
 
 use super::Server;
 use crate::counts::Counts;
@@ -34,12 +33,7 @@ impl Server {
         word: u64,
     ) -> Result<Server, AllocError>
         requires config { IsLawfulConfig config.now }
-        ensures settings { IfOk result (λ server. settings_in server ≡ settings_of config.now) }
-        ensures deliver { IfOk result (λ server. deliver_in server ≡ config.now.deliver) }
-        ensures first { IfOk result (λ server. first_in server ≡ nonce_of word) }
-        ensures none { IfOk result (λ server. events_in server ≡ []) }
-        ensures counts { IfOk result (λ server. counts_in server ≡ no_counts) }
-        ensures latest { IfOk result (λ server. latest_in server ≡ 0) }
+        ensures fresh { IfOk result (IsFresh config.now word) }
     {
         let first = (word & 0xffff_ffff) as u32;
         let gateway = Gateway::new(alloc, settings_of(config), first)?;
@@ -62,17 +56,14 @@ impl Server {
         link: &mut L,
         out: &mut O,
     ) -> Result<(), AllocError>
-        requires few { AreFew (2 ^ 61) self.old }
+        requires few { tally_in self.old < 2 ^ 61 }
         requires join { IsEventOf (settings_in self.old) (opening_of join.now) }
-        ensures takes { OnOk result (Takes (at_work self.old (link_at L.Link link.old) (out_at O.OutLink out.old))
-            (at_work self.new (link_at L.Link link.new) (out_at O.OutLink out.new)) (opening_of join.now ∷ [])) }
-        ensures none { OnErr result (Takes (at_work self.old (link_at L.Link link.old) (out_at O.OutLink out.old))
-            (at_work self.new (link_at L.Link link.new) (out_at O.OutLink out.new)) []) }
-        ensures tallies { Tallies (counts_in self.old) (counts_in self.new) 0 0 0 0 }
-        ensures latest { latest_in self.new ≡ latest_in self.old }
-        ensures coming { L.coming link.new ≡ L.coming link.old }
-        ensures faults { L.receive_faults link.new ≡ L.receive_faults link.old }
-        ensures waits { L.longest_wait link.new ≡ L.longest_wait link.old }
+        ensures takes { OnOk result (WorkDoes (taking (opening_of join.now ∷ []))
+            (at_work self.old (link_at L.Link link.old) (L.longest_wait link.old) (out_at O.OutLink out.old))
+            (at_work self.new (link_at L.Link link.new) (L.longest_wait link.new) (out_at O.OutLink out.new))) }
+        ensures none { OnErr result (WorkDoes nothing
+            (at_work self.old (link_at L.Link link.old) (L.longest_wait link.old) (out_at O.OutLink out.old))
+            (at_work self.new (link_at L.Link link.new) (L.longest_wait link.new) (out_at O.OutLink out.new))) }
     {
         let event = opening(alloc, join)?;
         self.take(alloc, &event, link, out)
@@ -87,15 +78,10 @@ impl Server {
         out: &mut O,
     ) -> Result<(), AllocError>
         requires joins { All (λ join. IsEventOf (settings_in self.old) (opening_of join)) joins.now }
-        requires few { AreFew 1 self.old }
+        requires few { tally_in self.old + length joins.now < 2 ^ 61 }
         ensures begins { BeginsWith (map opening_of joins.now)
-            (at_work self.old (link_at L.Link link.old) (out_at O.OutLink out.old))
-            (at_work self.new (link_at L.Link link.new) (out_at O.OutLink out.new)) result }
-        ensures latest { latest_in self.new ≡ latest_in self.old }
-        ensures coming { L.coming link.new ≡ L.coming link.old }
-        ensures faults { L.receive_faults link.new ≡ L.receive_faults link.old }
-        ensures waits { L.longest_wait link.new ≡ L.longest_wait link.old }
-        ensures few { GrowsBy (length joins.now) self.old self.new }
+            (at_work self.old (link_at L.Link link.old) (L.longest_wait link.old) (out_at O.OutLink out.old))
+            (at_work self.new (link_at L.Link link.new) (L.longest_wait link.new) (out_at O.OutLink out.new)) result }
     {
         for join in joins {
             self.open_join(alloc, join, link, out)?;
@@ -114,16 +100,14 @@ impl Server {
         out: &mut O,
     ) -> Result<(), AllocError>
         requires joins { All (λ join. IsEventOf (settings_in self.old) (opening_of join)) joins.now }
-        requires few { AreFew 0 self.old }
         requires none { events_in self.old ≡ [] }
+        requires uncounted { counts_in self.old ≡ no_counts }
+        requires early { latest_in self.old ≡ 0 }
         ensures opens { OpensSo joins.now
-            (at_work self.old (link_at L.Link link.old) (out_at O.OutLink out.old))
-            (at_work self.new (link_at L.Link link.new) (out_at O.OutLink out.new))
+            (at_work self.old (link_at L.Link link.old) (L.longest_wait link.old) (out_at O.OutLink out.old))
+            (at_work self.new (link_at L.Link link.new) (L.longest_wait link.new) (out_at O.OutLink out.new))
             (C.given clock.old) (C.given clock.new) result }
-        ensures coming { L.coming link.new ≡ L.coming link.old }
-        ensures faults { L.receive_faults link.new ≡ L.receive_faults link.old }
-        ensures waits { L.longest_wait link.new ≡ L.longest_wait link.old }
-        ensures few { AreFew (2 ^ 60) self.new }
+        ensures few { tally_in self.new ≤ 2 ^ 60 }
     {
         self.latest = clock.now();
         self.take(alloc, &GatewayEvent::Moment(self.latest), link, out)?;

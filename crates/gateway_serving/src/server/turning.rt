@@ -1,27 +1,29 @@
 //! One turn of a running gateway, and all of a run.
-ghost use Rattle.std.specs.Prelude.{◌≡◌, ◌≤◌, ◌-◌, ◌^◌, [], ◌∷◌, length};
-ghost use Rattle.amt_ports.specs.{EndCauses.{IsCausedBy}, Devices.{WaitsBriefly}};
-ghost use Rattle.gateway_serving.specs.{Devices.{devices_seen, feed_at, link_at, out_at, words_at}, Events.{nonce_of}, Servers.{AreFew, GrowsBy, Takes, Tallies, at_work, counts_in, latest_in}, Settings.{AreTurns}, Stages.{AreCausesOf, BeginsTurn, EndsIn, PassesMoment, RunsSo, TurnsSo}};
+ghost use Rattle.std.specs.Prelude.{◌≡◌, ◌≤◌, ◌<◌, ◌+◌, ◌^◌, [], ◌∷◌, length};
 ghost use Rattle.gateway_machine.specs.declared.event.GatewayEvent.TheVariants.{Nonce as NonceEvent};
+ghost use Rattle.gateway_serving.specs.{Devices.{feed_at, link_at, out_at, words_at}, Events.{nonce_of}, Servers.{tally_in}, Settings.{AreTurns}, Stages.{BeginsBy, PassesMoment, RunsSo, TurnsSo}, Traces.{WorkDoes, at_work, taking, world}};
 
 use super::Server;
 use amt_ports::{Clock, End, Feed, Link, OutLink, Words};
 use gateway_machine::GatewayEvent;
 use std::alloc::Global;
 
+// The nonce of a word: its low 32 bits.
+fn nonce_by(word: u64) -> u32
+    ensures { result ≡ nonce_of word }
+{
+    (word & 0xffff_ffff) as u32
+}
+
 impl Server {
     // The next nonce is that of this word. It takes no memory.
     fn draw<L: Link, O: OutLink>(&mut self, alloc: Global, word: u64, link: &mut L, out: &mut O)
-        requires few { AreFew (2 ^ 61) self.old }
-        ensures takes { Takes (at_work self.old (link_at L.Link link.old) (out_at O.OutLink out.old))
-            (at_work self.new (link_at L.Link link.new) (out_at O.OutLink out.new)) (NonceEvent (nonce_of word) ∷ []) }
-        ensures tallies { Tallies (counts_in self.old) (counts_in self.new) 0 0 0 0 }
-        ensures latest { latest_in self.new ≡ latest_in self.old }
-        ensures coming { L.coming link.new ≡ L.coming link.old }
-        ensures faults { L.receive_faults link.new ≡ L.receive_faults link.old }
-        ensures waits { L.longest_wait link.new ≡ L.longest_wait link.old }
+        requires few { tally_in self.old < 2 ^ 61 }
+        ensures takes { WorkDoes (taking (NonceEvent (nonce_of word) ∷ []))
+            (at_work self.old (link_at L.Link link.old) (L.longest_wait link.old) (out_at O.OutLink out.old))
+            (at_work self.new (link_at L.Link link.new) (L.longest_wait link.new) (out_at O.OutLink out.new)) }
     {
-        let event = GatewayEvent::Nonce((word & 0xffff_ffff) as u32);
+        let event = GatewayEvent::Nonce(nonce_by(word));
         match self.take(alloc, &event, link, out) {
             Ok(()) => {}
             // A nonce takes no memory.
@@ -37,21 +39,15 @@ impl Server {
         link: &mut L,
         out: &mut O,
     )
-        requires few { AreFew (2 ^ 61 - 1) self.old }
+        requires few { tally_in self.old < 2 ^ 61 }
         ensures passes { PassesMoment
-            (at_work self.old (link_at L.Link link.old) (out_at O.OutLink out.old))
-            (at_work self.new (link_at L.Link link.new) (out_at O.OutLink out.new))
+            (at_work self.old (link_at L.Link link.old) (L.longest_wait link.old) (out_at O.OutLink out.old))
+            (at_work self.new (link_at L.Link link.new) (L.longest_wait link.new) (out_at O.OutLink out.new))
             (C.given clock.old) (C.given clock.new) }
-        ensures coming { L.coming link.new ≡ L.coming link.old }
-        ensures faults { L.receive_faults link.new ≡ L.receive_faults link.old }
-        ensures waits { L.longest_wait link.new ≡ L.longest_wait link.old }
     {
         self.latest = self.latest.later(&clock.now());
         let event = GatewayEvent::Moment(self.latest);
-        match self.take(alloc, &event, link, out) {
-            Ok(()) => {}
-            Err(_) => self.count_starved(),
-        }
+        self.offer(alloc, &event, link, out);
     }
 
     // The first stage of a turn: a nonce, and its moment.
@@ -63,16 +59,11 @@ impl Server {
         link: &mut L,
         out: &mut O,
     ) -> Result<(), End>
-        requires few { AreFew (2 ^ 61 - 2) self.old }
-        ensures begins { BeginsTurn
-            (at_work self.old (link_at L.Link link.old) (out_at O.OutLink out.old))
-            (at_work self.new (link_at L.Link link.new) (out_at O.OutLink out.new))
-            (C.given clock.old) (C.given clock.new) (W.given words.old) (W.given words.new) result }
-        ensures cause { IsCausedBy result End.WordsFault (W.faults words.old) (W.faults words.new) }
-        ensures coming { L.coming link.new ≡ L.coming link.old }
-        ensures faults { L.receive_faults link.new ≡ L.receive_faults link.old }
-        ensures waits { L.longest_wait link.new ≡ L.longest_wait link.old }
-        ensures few { GrowsBy 2 self.old self.new }
+        requires few { tally_in self.old + 2 < 2 ^ 61 }
+        ensures begins { BeginsBy
+            (at_work self.old (link_at L.Link link.old) (L.longest_wait link.old) (out_at O.OutLink out.old))
+            (at_work self.new (link_at L.Link link.new) (L.longest_wait link.new) (out_at O.OutLink out.new))
+            (C.given clock.old) (C.given clock.new) (words_at W.Words words.old) (words_at W.Words words.new) result }
     {
         let Ok(word) = words.word() else {
             return Err(End::WordsFault);
@@ -94,17 +85,12 @@ impl Server {
         buf: &mut [u8],
     ) -> Result<(), End>
         requires room { 65536 ≤ length buf.old }
-        requires few { AreFew (2 ^ 61 - 130) self.old }
-        ensures turns { TurnsSo self.old self.new
-            (devices_seen (C.given clock.old) (words_at W.Words words.old) (link_at L.Link link.old) (feed_at F.Feed control.old) (out_at O.OutLink out.old))
-            (devices_seen (C.given clock.new) (words_at W.Words words.new) (link_at L.Link link.new) (feed_at F.Feed control.new) (out_at O.OutLink out.new)) result }
-        ensures causes { AreCausesOf result
-            (devices_seen (C.given clock.old) (words_at W.Words words.old) (link_at L.Link link.old) (feed_at F.Feed control.old) (out_at O.OutLink out.old))
-            (devices_seen (C.given clock.new) (words_at W.Words words.new) (link_at L.Link link.new) (feed_at F.Feed control.new) (out_at O.OutLink out.new)) }
-        ensures link_waits { WaitsBriefly (L.longest_wait link.old) (L.longest_wait link.new) }
-        ensures control_waits { WaitsBriefly (F.longest_wait control.old) (F.longest_wait control.new) }
-        ensures few { GrowsBy 130 self.old self.new }
-        ensures buffer { length buf.new ≡ length buf.old }
+        requires few { tally_in self.old + 258 < 2 ^ 61 }
+        ensures turns { TurnsSo
+            (world (at_work self.old (link_at L.Link link.old) (L.longest_wait link.old) (out_at O.OutLink out.old))
+            (C.given clock.old) (words_at W.Words words.old) (feed_at F.Feed control.old) (F.longest_wait control.old) (length buf.old))
+            (world (at_work self.new (link_at L.Link link.new) (L.longest_wait link.new) (out_at O.OutLink out.new))
+            (C.given clock.new) (words_at W.Words words.new) (feed_at F.Feed control.new) (F.longest_wait control.new) (length buf.new)) result }
     {
         self.begin_turn(alloc, clock, words, link, out)?;
         self.hear(alloc, link, out, buf)?;
@@ -125,15 +111,12 @@ impl Server {
     ) -> (End, u64)
         requires turns { AreTurns turns }
         requires room { 65536 ≤ length buf.old }
-        requires few { AreFew (2 ^ 60) self.old }
-        ensures runs { RunsSo turns self.old self.new
-            (devices_seen (C.given clock.old) (words_at W.Words words.old) (link_at L.Link link.old) (feed_at F.Feed control.old) (out_at O.OutLink out.old))
-            (devices_seen (C.given clock.new) (words_at W.Words words.new) (link_at L.Link link.new) (feed_at F.Feed control.new) (out_at O.OutLink out.new)) result.0 result.1 }
-        ensures causes { EndsIn result.0
-            (devices_seen (C.given clock.old) (words_at W.Words words.old) (link_at L.Link link.old) (feed_at F.Feed control.old) (out_at O.OutLink out.old))
-            (devices_seen (C.given clock.new) (words_at W.Words words.new) (link_at L.Link link.new) (feed_at F.Feed control.new) (out_at O.OutLink out.new)) }
-        ensures link_waits { WaitsBriefly (L.longest_wait link.old) (L.longest_wait link.new) }
-        ensures control_waits { WaitsBriefly (F.longest_wait control.old) (F.longest_wait control.new) }
+        requires few { tally_in self.old ≤ 2 ^ 60 }
+        ensures runs { RunsSo turns
+            (world (at_work self.old (link_at L.Link link.old) (L.longest_wait link.old) (out_at O.OutLink out.old))
+            (C.given clock.old) (words_at W.Words words.old) (feed_at F.Feed control.old) (F.longest_wait control.old) (length buf.old))
+            (world (at_work self.new (link_at L.Link link.new) (L.longest_wait link.new) (out_at O.OutLink out.new))
+            (C.given clock.new) (words_at W.Words words.new) (feed_at F.Feed control.new) (F.longest_wait control.new) (length buf.new)) result.0 result.1 }
     {
         for done in 0..turns {
             match self.turn(alloc, clock, words, link, control, out, buf) {

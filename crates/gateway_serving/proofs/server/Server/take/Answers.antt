@@ -1,15 +1,13 @@
-use Rattle.std.proofs.{Common.{length, refl, ap, ◌∙◌, arith}, Props.{props}, lemmas.{Bool.{false≢true}, List.{length_push}, Result.{err_from_is_err_and}}}
+use Rattle.std.proofs.{Common.{[], length, refl, sym, ap, ◌∙◌, append-nil, arith}, Props.{props}, lemmas.{Bool.{false≢true}, List.{length_push}, Result.{err_from_is_err_and}}}
 use Rattle.gateway_machine.specs.declared.settings.GatewaySettings.{GatewaySettings}
-use Rattle.gateway_serving.{specs.Servers.{events_in}, proofs.{Stepping.{Takes-step, at_next, by_all, few_sent}, Taking.{Takes-none}}}
+use Rattle.gateway_serving.{specs.{Servers.{events_in}, declared.counts.Counts.{Counts}}, proofs.{Stepping.{at_next, by_all, few_sent, step_does}, Traces.{Tallies-none, work_does}, Trying.{HasSent-none}}}
+use Rattle.amt_ports.proofs.Told.{AppendsAll-none}
 use Rattle.gateway_serving.proofs.server.Server.take.Goals as goal
 
 pub returns-in_err-sends-clause-none : goal.returns-in_err-sends-clause-none
 returns-in_err-sends-clause-none g c =
     let p = err_from_is_err_and c.from_residual.result c.from_residual.ensures.1 in
-    rw p.1
-    (Takes-none _ _
-    (record { same = record { same_settings = c.step.ensures.settings; same_first = refl; same_deliver = refl }; same_events = refl; same_delivered = refl; same_unsent = refl })
-    (record { tried = refl; faults = refl; handed = refl; out_faults = refl }))
+    rw p.1 (λ around. work_does [] [] 0 0 0 0 0 (λ i. record { settings = c.step.ensures.settings i; first = c.args.self.now.first; deliver = c.args.self.now.deliver }) (sym (append-nil _)) refl (HasSent-none refl refl refl refl) (Tallies-none _) (AppendsAll-none _) refl refl refl (omega arith) around)
 
 pub returns-in_err-sends-clause-needs_none : goal.returns-in_err-sends-clause-needs_none
 returns-in_err-sends-clause-needs_none g c needs =
@@ -20,7 +18,7 @@ send_all-requires g c =
     let server = c.args.self.now in
     let sent = few_sent server c.args.event.now c.in_ok-sends.field-0.sends c.in_ok-sends.ensures.sends in
     let same = ap length c.as_slice.ensures in
-    let few = c.requires.few.few_events in
+    let few = c.requires.few in
     let unsent = server.few_unsent in
     record { room = omega (arith, sent, same, few, unsent) }
 
@@ -29,11 +27,11 @@ hand_on-requires g c =
     let server = c.args.self.now in
     let sent = few_sent server c.args.event.now c.in_ok-sends.field-0.sends c.in_ok-sends.ensures.sends in
     let same = ap length c.as_slice.ensures in
-    let few = c.requires.few.few_events in
+    let few = c.requires.few in
     let unsent = server.few_unsent in
     let delivered = server.few_delivered in
     let more = c.send_all.ensures.few in
-    let still = c.send_all.ensures.sent.delivered_are in
+    let still = ap (λ (counts : Counts). counts.delivered) c.send_all.ensures.others in
     record { room = (omega (arith, sent, same, few, unsent, more), omega (arith, few, delivered, still)) }
 
 pub invariant_of-self-2 : goal.invariant_of-self-2
@@ -44,7 +42,7 @@ invariant_of-self-2 g c =
     let unsent = server.few_unsent in
     let delivered = server.few_delivered in
     let more = c.send_all.ensures.few in
-    let still = c.send_all.ensures.sent.delivered_are in
+    let still = ap (λ (counts : Counts). counts.delivered) c.send_all.ensures.others in
     let handed = c.hand_on.ensures.few in
     let grown = ap length c.then.ensures in
     let pushed = length_push (events_in server) c.args.event.now in
@@ -57,5 +55,6 @@ invariant_of-self-2 g c =
 
 pub returns-clause-takes : goal.returns-clause-takes
 returns-clause-takes g c =
-    Takes-step _ _ c.args.event.now _ c.as_slice.result.now c.in_ok-sends.field-0.sends c.in_ok-sends.field-0.deliver c.as_slice.ensures c.in_ok-sends.ensures.sends c.in_ok-sends.ensures.deliver
-    (record { same_settings = c.step.ensures.settings; same_first = refl; same_deliver = refl }) c.then.ensures c.send_all.ensures.sent c.hand_on.ensures.handed
+    step_does c.args.event.now c.send_all.new.counts c.as_slice.result.now c.in_ok-sends.field-0.sends c.in_ok-sends.field-0.deliver c.as_slice.ensures c.in_ok-sends.ensures.sends c.in_ok-sends.ensures.deliver
+    (λ i. record { settings = c.step.ensures.settings i; first = c.args.self.now.first; deliver = c.args.self.now.deliver }) c.then.ensures refl (c.send_all.ensures.sent _) (c.hand_on.ensures.handed _) c.send_all.ensures.others c.hand_on.ensures.others
+    c.send_all.ensures.coming c.send_all.ensures.faults c.send_all.ensures.waits

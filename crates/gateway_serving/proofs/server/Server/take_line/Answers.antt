@@ -1,25 +1,38 @@
-use Rattle.std.proofs.Common.{refl, subst, arith}
-use Rattle.gateway_script.specs.SocketLine.{RulesOutCalls}
+use Rattle.std.proofs.Common.{Bool, refl, sym, ap, subst, arith}
+use Rattle.gateway_machine.specs.declared.event.GatewayEvent.{GatewayEvent}
+use Rattle.gateway_script.specs.SocketLine.{IsSocketLine, RulesOutCalls}
 use Rattle.script_lines.specs.declared.fault.ScriptError.{ScriptError}
 use Rattle.socket_merge.specs.FullReport.{family_by}
-use Rattle.gateway_serving.proofs.Lines.{line_bad, line_called, line_unread}
+use Rattle.gateway_serving.{specs.{Turns.{Bad, Starved}, declared.counts.Counts.{Counts}}, proofs.{Lines.{line_called}, Traces.{counted}}}
 use Rattle.gateway_serving.proofs.server.Server.take_line.Goals as goal
 
-pub take-requires-clause-event : goal.take-requires-clause-event
-take-requires-clause-event g c = c.in-Ok.ensures.may _ c.args.self.now.family
+pub offer-requires-clause-event : goal.offer-requires-clause-event
+offer-requires-clause-event g c = c.in-Ok.ensures.may _ c.args.self.now.family
 
-pub returns-in-Ok-take-clause-lines : goal.returns-in-Ok-take-clause-lines
-returns-in-Ok-take-clause-lines g c =
-    line_called c.args.self.now _ _ c.args.line.now _ (record { same = record { same_settings = refl; same_first = refl; same_deliver = refl }; same_events = refl; same_delivered = refl; same_unsent = refl }) (record { datagrams_are = omega arith; controls_are = refl; bad_are = omega arith; starved_are = omega arith })
-    _ c.in-Ok.event c.in-Ok.ensures.found c.in-Ok-take.ensures.takes c.take.ensures.tallies
+pub returns-in-Ok : goal.returns-in-Ok
+returns-in-Ok g c = record {
+  lines = line_called c.args.line.now c.in-Ok.event c.offer.ensures.offers.starved (subst (λ (v6 : Bool). IsSocketLine (family_by v6) c.in-Ok.event c.args.line.now) (sym c.args.self.now.family) c.in-Ok.ensures.found)
+      (counted 0 1 0 0 (refl, refl, refl, refl) refl (record { datagrams_are = omega arith; controls_are = refl; bad_are = omega arith; starved_are = omega arith })) c.offer.ensures.offers.does;
+}
 
-pub returns-in-Err-Memory-clause-lines : goal.returns-in-Err-Memory-clause-lines
-returns-in-Err-Memory-clause-lines g c =
-    line_unread c.args.self.now _ _ c.args.line.now _ (record { same = record { same_settings = refl; same_first = refl; same_deliver = refl }; same_events = refl; same_delivered = refl; same_unsent = refl }) (record { datagrams_are = omega arith; controls_are = refl; bad_are = omega arith; starved_are = omega arith })
-    c.count_starved-in-Err-Memory.new.self c.count_starved-in-Err-Memory.ensures.alike c.count_starved-in-Err-Memory.ensures.tallies
+pub returns-in-Err-Memory : goal.returns-in-Err-Memory
+returns-in-Err-Memory g c =
+    let is = c.count_starved.ensures in record {
+      lines = record {
+        line = Starved;
+        may = tt;
+        does = counted 0 1 0 1 (refl, refl, ap (λ (one : Counts). one.delivered) is, ap (λ (one : Counts). one.unsent) is) refl
+            (record { datagrams_are = omega (arith, ap (λ (one : Counts). one.datagrams) is); controls_are = ap (λ (one : Counts). one.controls) is; bad_are = omega (arith, ap (λ (one : Counts). one.bad_controls) is); starved_are = ap (λ (one : Counts). one.starved) is });
+      };
+    }
 
-pub returns-clause-lines : goal.returns-clause-lines
-returns-clause-lines g c =
-    let none = subst (λ (error : ScriptError). RulesOutCalls (family_by c.args.self.now.v6) c.args.line.now error) c.in-Err-Fault.field-0-is c.in-Err-Fault.ensures.none in
-    line_bad c.args.self.now _ _ c.args.line.now _ none (record { same = record { same_settings = refl; same_first = refl; same_deliver = refl }; same_events = refl; same_delivered = refl; same_unsent = refl })
-    (record { datagrams_are = omega arith; controls_are = refl; bad_are = refl; starved_are = omega arith })
+pub returns-in-Err-Fault : goal.returns-in-Err-Fault
+returns-in-Err-Fault g c = record {
+  lines = record {
+    line = Bad;
+    may =
+        let none = subst (λ (error : ScriptError). RulesOutCalls (family_by c.args.self.now.v6) c.args.line.now error) c.in-Err-Fault.field-0-is c.in-Err-Fault.ensures.none in
+        subst (λ (v6 : Bool). (event : GatewayEvent) → IsSocketLine (family_by v6) event c.args.line.now → ⊥) (sym c.args.self.now.family) none;
+    does = counted 0 1 1 0 (refl, refl, refl, refl) refl (record { datagrams_are = omega arith; controls_are = refl; bad_are = refl; starved_are = omega arith });
+  };
+}

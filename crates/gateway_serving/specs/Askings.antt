@@ -1,0 +1,30 @@
+-- What one asking of a device comes to, and what all askings of a turn come to.
+use Rattle.std.specs.Prelude.{◌≡◌, ◌⊎◌, ℕ, List, [], ◌∷◌, Result, Ok, Err}
+use Rattle.amt_ports.specs.{Bursts.{AnswerKinds, IsBegun, IsBurst, IsClosed}, EndCauses.{IsCausedBy}, declared.{asked.Asked.{Asked, TheVariants.{Something, Nothing}}, end.End.{End, TheVariants.{Closed}}}}
+
+-- How a device is asked: by its answers what was seen becomes what is seen then; which of them go on; its fault, and
+-- how often it had that.
+pub record Asking (S A : Type 0) : Type 1 where
+  pub Goes : S → S → List A → Type 0
+  pub kinds : AnswerKinds A
+  pub fault : End
+  pub faults : S → ℕ
+
+module _ {A : Type 0} (kinds : AnswerKinds A) (fault : End) where
+  -- of one asking: a device ends a run where it is closed, or by its own fault
+  abbrev pub IsNext : Result Asked End → List A → Type 0
+  IsNext (Ok Something) answers = (one : A) × kinds.Came one × (answers ≡ one ∷ [])
+  IsNext (Ok Nothing) answers = answers ≡ kinds.nothing ∷ []
+  IsNext (Err end) answers = ((end ≡ Closed) × (answers ≡ kinds.closed ∷ [])) ⊎ ((end ≡ fault) × (answers ≡ []))
+
+  -- of all of a turn
+  abbrev pub AreAsked : Result (Unit {0}) End → List A → Type 0
+  AreAsked (Ok unit) answers = IsBurst kinds answers
+  AreAsked (Err end) answers = ((end ≡ Closed) × IsClosed kinds answers) ⊎ ((end ≡ fault) × IsBegun kinds answers)
+
+-- What was seen before became what is seen after by some answers, which ended so.
+pub record AskedSo {S A R : Type 0} (asking : Asking S A) (Ends : AnswerKinds A → End → Result R End → List A → Type 0) (before after : S) (result : Result R End) : Type 0 where
+  pub answers : List A
+  pub goes : asking.Goes before after answers
+  pub ends : Ends asking.kinds asking.fault result answers
+  pub cause : IsCausedBy result asking.fault (asking.faults before) (asking.faults after)
