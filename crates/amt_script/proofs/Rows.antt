@@ -1,8 +1,8 @@
 -- A line is of one kind.
-use Rattle.std.{proofs.{Common.{◌≡◌, ◌<◌, ◌^◌, ℕ, List, [], ◌∷◌, ◌++◌, map, Some, refl, rules, arith}, lemmas.List.Elements.{All-from_recursion}}, specs.List.{AllByRecursion}}
+use Rattle.std.{proofs.{Common.{◌≡◌, ◌<◌, ◌^◌, ℕ, List, ◌∷◌, ◌++◌, map, Some, refl, rules, arith}, lemmas.List.Elements.{All-from_recursion}}, specs.List.{AllByRecursion}}
 use Rattle.relay_machine.{specs.{declared.number_key.{NumberKey.{NumberKey, TheVariants.{Robustness}}, TheConstants.{NUMBER_KEYS}}, Settings.{number_row}}, proofs.Numbers.{All-keys}}
 use Rattle.script_lines.proofs.WordTables.{first_kind, one_kind, one_rest}
-use Rattle.amt_script.specs.{declared.kind.{Key.{Key, TheVariants.{Relay, Query4, Query6, Number, Secret}}, Kind.{Kind}}, Row.{words_of}}
+use Rattle.amt_script.specs.{declared.kind.{Key.TheVariants.{Relay, Query4, Query6, Number, Secret}, Kind.{Kind}}, Row.{words_of}}
 use Rattle.amt_script.specs.declared.kind.Kind.TheVariants as kinds
 
 pub most_small : (key : NumberKey) → (number_row key).most < 2 ^ 32

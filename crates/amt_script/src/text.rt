@@ -1,9 +1,9 @@
 //! The texts of a relay's events and steps. It knows no script and no sink.
 
-ghost use Rattle.std.specs.Prelude.{◌≡◌, ◌++◌, ◌≤◌, codes, decimal, length, OnOk, IfOk};
+ghost use Rattle.std.specs.Prelude.{◌≡◌, ◌++◌, ◌≤◌, length, OnOk, IfOk};
 ghost use Rattle.relay_machine.specs.{EventSize.{IsEvent}, declared.outcome.Outcome.TheVariants.{Queried, NotForwarded as NotForwardedFor}};
 ghost use Rattle.relay_machine.specs.declared.event.Event.TheVariants as events;
-ghost use Rattle.amt_script.specs.{Printed.{IsLineOf, IsLineThatSays}, Texts.{answer_line, outcome_text, event_line, event_text, send_text, step_text}};
+ghost use Rattle.amt_script.specs.{Printed.{IsLineOf, IsLineThatSays}, Texts.{answer_line, outcome_text, event_line, event_text, step_text}};
 
 use crate::fault_text::{append_limit, append_not_forwarded, append_unlawful};
 use amt_values::{Bytes, Peer, append_numeral, print_peer};
