@@ -1,6 +1,6 @@
 -- The commands, by cases: what each reads, it reads in one way at most, and with one fault at most.
-use Rattle.std.proofs.Common.{◌≡◌, ◌⊎◌, ℕ, List, [], ◌∷◌, Option, Result, Ok, Err, IfErr, inl, inr, refl, subst, arith}
-use Rattle.script_lines.{specs.{Script.{IsErrorOf, RulesOutScripts}, declared.fault.ScriptError.{ScriptError}}, proofs.Verdicts.{one_fault, one_script}}
+use Rattle.std.proofs.Common.{◌≡◌, ℕ, List, [], ◌∷◌, Option, Result, Ok, Err, IfErr, refl, arith}
+use Rattle.script_lines.{specs.{Kind.{Kind}, Script.{IsErrorOf, IsFaultAt, RulesOutScripts, Spells}, declared.fault.ScriptError.{ScriptError}}, proofs.Verdicts.{one_fault, one_script}}
 use Rattle.script_lines.specs.declared.fault.ScriptError.TheVariants as errors
 use Rattle.amt_dump.{proofs.Lawful.{dump_kind_lawful, one_dump}, specs.Lines.{dump_kind}}
 use Rattle.amt_script.{proofs.Lawful.{relay_kind_lawful}, specs.Script.{relay_kind}}
@@ -8,7 +8,9 @@ use Rattle.amt_vectors.{proofs.{Lawful.{vector_kind_lawful}, Reports.{report_uni
 use Rattle.gateway_script.{proofs.Lawful.{gateway_kind_lawful}, specs.Script.{gateway_kind}}
 use Rattle.pair_script.{proofs.Lawful.{pair_kind_lawful}, specs.Script.{pair_kind}}
 use Rattle.amt_words.specs.{declared.command.{Command.{Command, TheVariants.{Dump, Load, Replay, Vectors, Gateway as GatewayServing, Relay as RelayServing}}, Replayable.TheVariants.{Gateway, Pair, Relay}}, Line.{IsAccepted, IsCommandLine}, Usage.{dump_usage, gateway_usage, load_usage, relay_usage, replay_usage, vectors_usage}}
-use Rattle.amt_command.specs.{Command.{dump_task, vectors_task, work_of}, Task.{HasOneFaultFor, HasOneValue, IsErrorBy}}
+use Rattle.amt_ports.specs.declared.files.Files.{Ghosts as FilesTell}
+use Rattle.serving_commands.specs.Lives.{Tells}
+use Rattle.amt_command.specs.{Command.{work_of}, Running.{IsGatewayLine, IsRelayLine, ServesFor}, Serving.{untouched}, Task.{HasOneFaultFor, HasOneValue, IsErrorBy}}
 
 pub one_value_of : (command : Command) → HasOneValue (work_of command)
 one_value_of (Replay Relay) = one_script relay_kind relay_kind_lawful
@@ -40,58 +42,30 @@ accepted (Load seed count) (name ∷ words) is = (3, load_usage, omega arith, re
 accepted (RelayServing file turns workers) (name ∷ words) is = (4, relay_usage, omega arith, refl, (is.0, is.1))
 accepted (GatewayServing file turns) (name ∷ words) is = (5, gateway_usage, omega arith, refl, (is.0, is.1))
 
--- what is said of an error in two clauses
-both : {T : Type 0} (P Q R : ScriptError → Type 0) (r : Result T ScriptError) → ((error : ScriptError) → P error → Q error → R error)
-    → IfErr r P → IfErr r Q → IfErr r R
-both P Q R (Ok value) f p q = tt
-both P Q R (Err error) f p q = f error p q
+-- what a reader of lines says of its error in two clauses, of a task whose values are by what the lines spell
+pub fault_by : {X S W T : Type 0} (kind : Kind S W) (Reads : X → List ℕ → Type 0) (text : X → List ℕ) (difference : X → Option (List ℕ)) (bytes : List ℕ)
+    → ((value : X) → Reads value bytes → (script : W) × Spells kind script bytes) → (r : Result T ScriptError)
+    → IfErr r (IsErrorOf kind bytes) → IfErr r (RulesOutScripts kind bytes)
+    → IfErr r (IsErrorBy (record { Reads = Reads; HasFault = IsFaultAt kind; text = text; difference = difference }) bytes)
+fault_by kind Reads text difference bytes spelled (Ok value) fault none = tt
+fault_by kind Reads text difference bytes spelled (Err (errors.Fault line reason)) fault none =
+    (λ value reads. let script = spelled value reads in none script.0 script.1, fault)
+fault_by kind Reads text difference bytes spelled (Err errors.Memory) fault none = tt
 
-dump_error : (bytes : List ℕ) (error : ScriptError) → IsErrorOf dump_kind bytes error → RulesOutScripts dump_kind bytes error → IsErrorBy dump_task bytes error
-dump_error bytes (errors.Fault line reason) fault none = (λ text dump. none dump.datagrams dump.spelled, fault)
-dump_error bytes errors.Memory fault none = tt
+-- where memory runs out for the arguments, and nothing is touched, no more is said of a command
+pub starved : {G V L F C W O P T A : Type 0} (kept : FilesTell G) (told : Tells V L F C W O P T) (files : G) (live : V) (written : A → Option (List ℕ)) (out : A) (line : List ℕ)
+    (command : Command) → ServesFor kept told files files live live command written out out 7 line
+starved kept told files live written out line (RelayServing file turns workers) = untouched refl refl refl refl
+starved kept told files live written out line (GatewayServing file turns) = untouched refl refl refl refl
+starved kept told files live written out line command = (refl, refl)
 
-pub dump_fault : {T : Type 0} (bytes : List ℕ) (r : Result T ScriptError) → IfErr r (IsErrorOf dump_kind bytes) → IfErr r (RulesOutScripts dump_kind bytes)
-    → IfErr r (IsErrorBy dump_task bytes)
-dump_fault bytes r fault none = both (IsErrorOf dump_kind bytes) (RulesOutScripts dump_kind bytes) (IsErrorBy dump_task bytes) r (dump_error bytes) fault none
-
-vectors_error : (bytes : List ℕ) (error : ScriptError) → IsErrorOf vector_kind bytes error → RulesOutScripts vector_kind bytes error
-    → IsErrorBy vectors_task bytes error
-vectors_error bytes (errors.Fault line reason) fault none = (λ suite report. none report.rows report.spells, fault)
-vectors_error bytes errors.Memory fault none = tt
-
-pub vectors_fault : {T : Type 0} (bytes : List ℕ) (r : Result T ScriptError) → IfErr r (IsErrorOf vector_kind bytes) → IfErr r (RulesOutScripts vector_kind bytes)
-    → IfErr r (IsErrorBy vectors_task bytes)
-vectors_fault bytes r fault none = both (IsErrorOf vector_kind bytes) (RulesOutScripts vector_kind bytes) (IsErrorBy vectors_task bytes) r (vectors_error bytes) fault none
-
--- words that are no command's
-pub refused_by : {U : Type 0} (line : List (List ℕ)) → U ⊎ ((command : Command) × IsCommandLine command line)
-    → ((command : Command) → IsCommandLine command line → ⊥) → U
-refused_by line (inl refused) none = refused
-refused_by line (inr named) none = absurd (none named.0 named.1)
-
--- what is said of the file, the turns and the workers of `relay`, and nothing of another command
-abbrev OfRelay : (List ℕ → ℕ → Option ℕ → Type 0) → Command → Type 0
-OfRelay P (Replay kind) = Unit {0}
-OfRelay P Dump = Unit {0}
-OfRelay P Vectors = Unit {0}
-OfRelay P (Load seed count) = Unit {0}
-OfRelay P (RelayServing file turns workers) = P file turns workers
-OfRelay P (GatewayServing file turns) = Unit {0}
-
--- it is said of one `relay` if of the other
-pub for_relay : (P : List ℕ → ℕ → Option ℕ → Type 0) (file file' : List ℕ) (turns turns' : ℕ) (workers workers' : Option ℕ)
-    → RelayServing file turns workers ≡ RelayServing file' turns' workers' → P file turns workers → P file' turns' workers'
-for_relay P file file' turns turns' workers workers' same said = subst (OfRelay P) same said
-
--- what is said of the file and the turns of `gateway`, and nothing of another command
-abbrev OfGateway : (List ℕ → ℕ → Type 0) → Command → Type 0
-OfGateway P (Replay kind) = Unit {0}
-OfGateway P Dump = Unit {0}
-OfGateway P Vectors = Unit {0}
-OfGateway P (Load seed count) = Unit {0}
-OfGateway P (RelayServing file turns workers) = Unit {0}
-OfGateway P (GatewayServing file turns) = P file turns
-
--- it is said of one `gateway` if of the other
-pub for_gateway : (P : List ℕ → ℕ → Type 0) (file file' : List ℕ) (turns turns' : ℕ) → GatewayServing file turns ≡ GatewayServing file' turns' → P file turns → P file' turns'
-for_gateway P file file' turns turns' same said = subst (OfGateway P) same said
+-- a command that isn't `relay` or `gateway` touches no files and devices
+pub unserved : {G V L F C W O P T A : Type 0} (kept : FilesTell G) (told : Tells V L F C W O P T) (files files' : G) (live live' : V) (written : A → Option (List ℕ)) (out out' : A)
+    (status : ℕ) (line : List ℕ) (words : List (List ℕ)) (command : Command) → IsCommandLine command words
+    → ServesFor kept told files files' live live' command written out out' status line → (IsRelayLine words → ⊥) → (IsGatewayLine words → ⊥)
+    → (files' ≡ files) × (live' ≡ live)
+unserved kept told files files' live live' written out out' status line words (RelayServing file turns workers) is serves no_relay no_gateway =
+    absurd (no_relay (file, turns, workers, is))
+unserved kept told files files' live live' written out out' status line words (GatewayServing file turns) is serves no_relay no_gateway =
+    absurd (no_gateway (file, turns, is))
+unserved kept told files files' live live' written out out' status line words command is serves no_relay no_gateway = serves

@@ -24,11 +24,8 @@ module _ {R T : Type 0} (reporting : Reporting R) (written : T → Option (List 
   }
 
   fault_told : (fault : ServingFault) → Shows reporting (Err fault) written out out (status_of_ending (ending_of_fault fault)) (line_of_ending (ending_of_fault fault))
-  fault_told faults.NotRead = told (Err faults.NotRead) (λ is. absurd (omega (arith, is))) (λ is. absurd (omega (arith, is)))
-  fault_told faults.TooLong = told (Err faults.TooLong) (λ is. absurd (omega (arith, is))) (λ is. absurd (omega (arith, is)))
   fault_told (faults.Settings fault) = told (Err (faults.Settings fault)) (λ is. absurd (omega (arith, is))) (λ is. absurd (omega (arith, is)))
-  fault_told faults.NotOpened = told (Err faults.NotOpened) (λ is. absurd (omega (arith, is))) (λ is. absurd (omega (arith, is)))
-  fault_told faults.Memory = told (Err faults.Memory) (λ is. absurd (omega (arith, is))) (λ is. absurd (omega (arith, is)))
+  fault_told fault = told (Err fault) (λ is. absurd (omega (arith, is))) (λ is. absurd (omega (arith, is)))
 
   memory_told : (fault : ServingFault) → status_of_ending (ending_of_fault fault) ≡ 3 → Shows reporting (Err fault) written out out 7 (line_of_ending Memory)
   memory_told fault three = record {
@@ -50,11 +47,8 @@ module _ {R T : Type 0} (reporting : Reporting R) (written : T → Option (List 
       (memory_told fault memory.1)
 
 line_of_told : (fault : ServingFault) (line : List ℕ) → ending_of_fault fault ≡ Fault line → (fault : ConfigFault) × (line ≡ settings_line fault)
-line_of_told faults.NotRead line is = cc is
-line_of_told faults.TooLong line is = cc is
 line_of_told (faults.Settings fault) line is = (fault, cc is)
-line_of_told faults.NotOpened line is = cc is
-line_of_told faults.Memory line is = cc is
+line_of_told fault line is = cc is
 
 -- a line of a fault is one of the settings
 pub settings_told : (fault : ServingFault) (ending : Ending) → IsToldAs fault ending → (line : List ℕ) → ending ≡ Fault line → (fault : ConfigFault) × (line ≡ settings_line fault)

@@ -1,11 +1,10 @@
 -- The status and the line of each ending.
-use Rattle.std.specs.{Prelude.{◌≡◌, ◌≢◌, ◌⊎◌, ℕ, List, [], Option, Result, Ok, Err, OnOk, IfErr, IsErrOf}, Io.KnownBytes.{Appends}}
+use Rattle.std.specs.Prelude.{◌≡◌, ◌≢◌, ◌⊎◌, ℕ, List, [], Option, Result, Ok, Err, OnOk, IfErr, IsErrOf}
 use Rattle.amt_ports.specs.{Causes.{Rose}, Reading.{TakesAtMost, TakesMore}}
 use Rattle.amt_values.specs.declared.bytes.TheConstants.{INPUT_LIMIT}
 use Rattle.amt_config.specs.declared.fault.ConfigFault.{ConfigFault}
 use Rattle.serving_commands.specs.Texts.{settings_line}
-use Rattle.script_lines.specs.Writing.{WritesPrefix}
-use Rattle.amt_command.specs.{declared.ending.Ending.{Ending, TheVariants.{Difference, Fault, LinkFault, Memory, RandomFault, ReadFault, TooLong, Usage, WriteFault}}, Command.{status_line}, Task.{BeginsToWrite, IsDifferenceText, IsFaultText, Task, Work, Writes, making, reading, serving}}
+use Rattle.amt_command.specs.{declared.ending.Ending.{Ending, TheVariants.{Difference, Fault, LinkFault, Memory, RandomFault, ReadFault, TooLong, Usage, WriteFault}}, Command.{status_line}, Status.{AnswersMaking}, Task.{BeginsToWrite, IsDifferenceText, IsFaultText, Task, Work, Writes, making, reading, serving}}
 
 -- the status of an ending that isn't well
 abbrev pub status_of_ending : Ending → ℕ
@@ -52,26 +51,19 @@ pub record EndsReading {X : Type 0} (task : Task X) (left left' : Option (List �
   pub begun : IsErrOf result WriteFault → BeginsToWrite task left left' written written'
   pub memory : IsErrOf result Memory → OutIsSame ⊎ BeginsToWrite task left left' written written'
 
--- How a run that writes a text of its words alone ends, and what it leaves.
-pub record EndsMaking (text : List ℕ) (written written' : Option (List ℕ)) (OutIsSame InputIsSame : Type 0) (result : Result (Unit {0}) Ending) : Type 0 where
-  pub done : OnOk result (Appends written written' text)
-  pub begun : IsErrOf result WriteFault → WritesPrefix written written' text
-  pub memory : IsErrOf result Memory → OutIsSame
-  pub untouched : InputIsSame
-  pub only : IfErr result (λ ending. (ending ≡ WriteFault) ⊎ (ending ≡ Memory))
-
 -- how a run over files and devices ends, and that it leaves its input alone
 pub record EndsServing (InputIsSame : Type 0) (result : Result (Unit {0}) Ending) : Type 0 where
   pub untouched : InputIsSame
   pub fault : (line : List ℕ) → IsErrOf result (Fault line) → (fault : ConfigFault) × (line ≡ settings_line fault)
   pub no_difference : (line : List ℕ) → IsErrOf result (Difference line) → ⊥
 
--- how a run of the work ends
-abbrev pub EndsFor : Work → Option (List ℕ) → Option (List ℕ) → ℕ → ℕ → Option (List ℕ) → Option (List ℕ) → Type 0 → Type 0 → Result (Unit {0}) Ending → Type 0
-EndsFor (reading X task) left left' reads reads' written written' OutIsSame InputIsSame result =
-    EndsReading task left left' reads reads' written written' OutIsSame result
-EndsFor (making text) left left' reads reads' written written' OutIsSame InputIsSame result = EndsMaking text written written' OutIsSame InputIsSame result
-EndsFor serving left left' reads reads' written written' OutIsSame InputIsSame result = EndsServing InputIsSame result
+-- how a run of the work ends, its input and output before and after; the functions are as in `Answers`
+abbrev pub EndsFor : Work → {S O : Type 0} → (S → Option (List ℕ)) → (S → ℕ) → (O → Option (List ℕ)) → (O → ℕ) → S → S → O → O → Result (Unit {0}) Ending → Type 0
+EndsFor (reading X task) left reads written writes input input' out out' result =
+    EndsReading task (left input) (left input') (reads input) (reads input') (written out) (written out') (out' ≡ out) result
+EndsFor (making text) left reads written writes input input' out out' result =
+    AnswersMaking text reads written writes input input' out out' (status_of result)
+EndsFor serving left reads written writes input input' out out' result = EndsServing (input' ≡ input) result
 
 -- What became of the input and the output of a run: the output failed once exactly where the ending says so, by
 -- its count of failures, and the input failed, or was taken past its limit, only where it says that.

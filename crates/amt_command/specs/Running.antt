@@ -1,8 +1,8 @@
 -- What is said of the commands `relay` and `gateway`, which serve by a settings file.
-use Rattle.std.specs.Prelude.{ℕ, List, Option}
+use Rattle.std.specs.Prelude.{◌≡◌, ℕ, List, Option}
 use Rattle.amt_config.specs.declared.config.{GatewayConfig.{GatewayConfig}, RelayConfig.{RelayConfig}}
 use Rattle.amt_ports.specs.declared.files.Files.{Ghosts as FilesTell}
-use Rattle.amt_words.specs.{Line.{IsCommandLine}, declared.command.Command.TheVariants.{Gateway as GatewayServing, Relay as RelayServing}}
+use Rattle.amt_words.specs.{Line.{IsCommandLine}, declared.command.Command.{Command, TheVariants.{Gateway as GatewayServing, Relay as RelayServing}}}
 use Rattle.serving_commands.specs.GatewayOpenings as gateway_openings
 use Rattle.serving_commands.specs.GatewayRunning as gateways
 use Rattle.serving_commands.specs.GatewayTexts as gateway_texts
@@ -60,3 +60,12 @@ module _ {G V L F C W O P T : Type 0} (kept : FilesTell G) (told : Tells V L F C
   abbrev pub Gateways : G → G → V → V → {A : Type 0} → (A → Option (List ℕ)) → A → A → ℕ → List ℕ → Type 0
   Gateways files files' live live' written out out' status line =
       Serves kept told.live (gateway_service told turns) file files files' live live' written out out' status line
+
+module _ {G V L F C W O P T : Type 0} (kept : FilesTell G) (told : Tells V L F C W O P T) (files files' : G) (live live' : V) where
+  -- What a command does with files and devices, as its status and its line show: `relay` and `gateway` serve, and
+  -- no other touches them.
+  abbrev pub ServesFor : Command → {A : Type 0} → (A → Option (List ℕ)) → A → A → ℕ → List ℕ → Type 0
+  ServesFor (RelayServing file turns workers) written out out' status line =
+      Relays kept told file turns workers files files' live live' written out out' status line
+  ServesFor (GatewayServing file turns) written out out' status line = Gateways kept told file turns files files' live live' written out out' status line
+  ServesFor command written out out' status line = (files' ≡ files) × (live' ≡ live)

@@ -32,6 +32,7 @@ impl Report for ServeReport {
 }
 
 /// Runs the relay of the file, and writes the counts of its run.
+#[tactic(auto, using(crate::proofs::Shown::shown))]
 pub fn serve_relay_file<F: Files, O: Sink, V: Live>(
     rt: &impl Wait,
     alloc: Global,

@@ -66,9 +66,8 @@ pub fn run_task<T: HasTask, S: Source, O: Sink>(
     out: &mut O,
 ) -> Result<(), Ending>
     ensures no_usage { IsErrOf result Ending.Usage → ⊥ }
-    ensures ends { EndsFor (reading T.Value T.task) (S.left input.old) (S.left input.new)
-        (S.faults input.old) (S.faults input.new) (O.written out.old) (O.written out.new)
-        (out.new ≡ out.old) (input.new ≡ input.old) result }
+    ensures ends { EndsFor (reading T.Value T.task) S.left S.faults O.written O.faults
+        input.old input.new out.old out.new result }
     ensures devices { LeavesDevices S.left S.faults O.faults input.old input.new out.old out.new
         result }
 {
@@ -97,9 +96,8 @@ pub fn write_load<S: Source, O: Sink>(
 ) -> Result<(), Ending>
     requires least { 1 ≤ count }
     requires most { count ≤ 65536 }
-    ensures ends { EndsFor (making (load_text (summary_of (load_script_of seed count)))) (S.left input.old) (S.left input.new)
-        (S.faults input.old) (S.faults input.new) (O.written out.old) (O.written out.new)
-        (out.new ≡ out.old) (input.new ≡ input.old) result }
+    ensures ends { EndsFor (making (load_text (summary_of (load_script_of seed count)))) S.left S.faults O.written O.faults
+        input.old input.new out.old out.new result }
     ensures devices { LeavesDevices S.left S.faults O.faults input.old input.new out.old out.new
         result }
 {

@@ -5,7 +5,7 @@ ghost use Rattle.amt_ports.specs.Causes.{Rose};
 ghost use Rattle.amt_words.specs.{Line.{IsAccepted, IsCommandLine, IsWithinLimits}, declared.command.Command.{Command as CommandValue}};
 ghost use Rattle.script_lines.specs.Writing.{WritesPrefix};
 ghost use Rattle.serving_commands.specs.Lives.{tells};
-ghost use Rattle.amt_command.specs.{Command.{work_of}, Ending.{EndsFor, LeavesDevices, status_of, line_of}, Exit.{status_in}, Running.{Gateways, IsGatewayLine, IsRelayLine, Relays}, Serving.{ServesAndTells}, Status.{Answers, Reports, ReportsMemory}, Task.{HasOneFaultFor, HasOneValue}};
+ghost use Rattle.amt_command.specs.{Command.{work_of}, Ending.{EndsFor, LeavesDevices, status_of, line_of}, Exit.{status_in}, Running.{Gateways, IsGatewayLine, IsRelayLine, Relays, ServesFor}, Serving.{ServesAndTells}, Status.{Answers, Reports, ReportsMemory}, Task.{HasOneFaultFor, HasOneValue}};
 
 use crate::ending::Ending;
 use crate::exit::Exit;
@@ -27,9 +27,8 @@ fn replay<S: Source, O: Sink>(
     out: &mut O,
 ) -> Result<(), Ending>
     ensures no_usage { IsErrOf result Ending.Usage → ⊥ }
-    ensures ends { EndsFor (work_of (CommandValue.Replay kind)) (S.left input.old) (S.left input.new)
-        (S.faults input.old) (S.faults input.new) (O.written out.old) (O.written out.new)
-        (out.new ≡ out.old) (input.new ≡ input.old) result }
+    ensures ends { EndsFor (work_of (CommandValue.Replay kind)) S.left S.faults O.written O.faults
+        input.old input.new out.old out.new result }
     ensures devices { LeavesDevices S.left S.faults O.faults input.old input.new out.old out.new
         result }
 {
@@ -51,20 +50,11 @@ fn run_command<S: Source, F: Files, O: Sink, V: Live>(
 ) -> Result<(), Ending>
     requires { IsWithinLimits command }
     ensures no_usage { IsErrOf result Ending.Usage → ⊥ }
-    ensures relays { (file : List ℕ) (turns : ℕ) (workers : Option ℕ) → command.entry ≡ CommandValue.Relay file turns workers
-        → Relays F.Files (tells V.Live V.L.Link V.F.Feed V.C.Clock V.W.Words V.O.OutLink V.P.starts V.P.faults)
-        file turns workers files.old files.new live.old live.new O.written out.old out.new
+    ensures serves { ServesFor F.Files (tells V.Live V.L.Link V.F.Feed V.C.Clock V.W.Words V.O.OutLink V.P.starts V.P.faults)
+        files.old files.new live.old live.new command.entry O.written out.old out.new
         (status_of result) (line_of result) }
-    ensures gateways { (file : List ℕ) (turns : ℕ) → command.entry ≡ CommandValue.Gateway file turns
-        → Gateways F.Files (tells V.Live V.L.Link V.F.Feed V.C.Clock V.W.Words V.O.OutLink V.P.starts V.P.faults)
-        file turns files.old files.new live.old live.new O.written out.old out.new
-        (status_of result) (line_of result) }
-    ensures unused { ((file : List ℕ) (turns : ℕ) (workers : Option ℕ) → command.entry ≡ CommandValue.Relay file turns workers → ⊥)
-        → ((file : List ℕ) (turns : ℕ) → command.entry ≡ CommandValue.Gateway file turns → ⊥)
-        → (files.new ≡ files.old) × (live.new ≡ live.old) }
-    ensures ends { EndsFor (work_of command.entry) (S.left input.old) (S.left input.new)
-        (S.faults input.old) (S.faults input.new) (O.written out.old) (O.written out.new)
-        (out.new ≡ out.old) (input.new ≡ input.old) result }
+    ensures ends { EndsFor (work_of command.entry) S.left S.faults O.written O.faults
+        input.old input.new out.old out.new result }
     ensures devices { LeavesDevices S.left S.faults O.faults input.old input.new out.old out.new
         result }
 {
@@ -94,26 +84,17 @@ fn run<S: Source, F: Files, O: Sink, V: Live>(
     live: &mut V,
 ) -> Result<(), Ending>
     ensures usage { IsErrOf result Ending.Usage → IsAccepted (map string_bytes words.now) → ⊥ }
-    ensures words { (IsErrOf result Ending.Usage ⊎ IsErrOf result Ending.Memory) ⊎ ((command : CommandValue) × IsCommandLine command (map string_bytes words.now)) }
-    ensures untouched { ((command : CommandValue) → IsCommandLine command (map string_bytes words.now) → ⊥)
-        → (input.new ≡ input.old) × (out.new ≡ out.old) }
+    ensures words { ((IsErrOf result Ending.Usage ⊎ IsErrOf result Ending.Memory)
+        × (input.new ≡ input.old) × (out.new ≡ out.old) × (files.new ≡ files.old) × (live.new ≡ live.old))
+        ⊎ ((command : CommandValue) × IsCommandLine command (map string_bytes words.now)) }
 
-    ensures relays { (file : List ℕ) (turns : ℕ) (workers : Option ℕ)
-        → IsCommandLine (CommandValue.Relay file turns workers) (map string_bytes words.now)
-        → Relays F.Files (tells V.Live V.L.Link V.F.Feed V.C.Clock V.W.Words V.O.OutLink V.P.starts V.P.faults)
-        file turns workers files.old files.new live.old live.new O.written out.old out.new
+    ensures serves { (command : CommandValue) → IsCommandLine command (map string_bytes words.now)
+        → ServesFor F.Files (tells V.Live V.L.Link V.F.Feed V.C.Clock V.W.Words V.O.OutLink V.P.starts V.P.faults)
+        files.old files.new live.old live.new command O.written out.old out.new
         (status_of result) (line_of result) }
-    ensures gateways { (file : List ℕ) (turns : ℕ)
-        → IsCommandLine (CommandValue.Gateway file turns) (map string_bytes words.now)
-        → Gateways F.Files (tells V.Live V.L.Link V.F.Feed V.C.Clock V.W.Words V.O.OutLink V.P.starts V.P.faults)
-        file turns files.old files.new live.old live.new O.written out.old out.new
-        (status_of result) (line_of result) }
-    ensures unused { ¬ IsRelayLine (map string_bytes words.now) → ¬ IsGatewayLine (map string_bytes words.now)
-        → (files.new ≡ files.old) × (live.new ≡ live.old) }
     ensures of_command { (command : CommandValue) → IsCommandLine command (map string_bytes words.now)
-        → EndsFor (work_of command) (S.left input.old) (S.left input.new)
-        (S.faults input.old) (S.faults input.new) (O.written out.old) (O.written out.new)
-        (out.new ≡ out.old) (input.new ≡ input.old) result }
+        → EndsFor (work_of command) S.left S.faults O.written O.faults
+        input.old input.new out.old out.new result }
     ensures devices { LeavesDevices S.left S.faults O.faults input.old input.new out.old out.new
         result }
 {

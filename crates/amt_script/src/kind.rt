@@ -1,6 +1,6 @@
 //! The kinds of lines of a relay's script, by their first words. It reads no value.
 
-ghost use Rattle.std.specs.Prelude.{◌≡◌, ◌≢◌, ◌↔◌, IsTrue, ◌∷◌, ◌++◌, [], List, ℕ, codes, IfSome, IfNone, IfOk, IsErrOf};
+ghost use Rattle.std.specs.Prelude.{◌≡◌, ◌≢◌, ◌∷◌, ◌++◌, [], codes, IfSome, IfNone, IfOk, IsErrOf};
 ghost use Rattle.amt_script.specs.{declared.kind.Key.{Key as KeyValue}, Row.{key_word, number_word, words_of, BeginsWithNoKey, IsUnknown}};
 ghost use Rattle.script_lines.specs.Lines.{fields};
 ghost use Rattle.relay_machine.specs.declared.number_key.NumberKey.{NumberKey as NumberKeyValue};
@@ -20,7 +20,7 @@ pub enum Key {
 }
 
 impl Key {
-    ghost use Rattle.std.specs.Prelude.{◌≡◌, string_bytes};
+    ghost use Rattle.std.specs.Prelude.{◌≡◌};
     ghost use Rattle.amt_script.specs.Row.{key_word};
 
     /// The word after `set`.

@@ -1,6 +1,6 @@
 //! A relay's run over a script, and what is written of it. It knows sinks by their trait alone.
 
-ghost use Rattle.std.specs.{Prelude.{◌≡◌, ◌+◌, ◌≤◌, ◌<◌, ◌^◌, [], ◌∷◌, ◌++◌, flat_map, OnOk, OnErr, IsErrOf}, Io.KnownBytes.{Appends}};
+ghost use Rattle.std.specs.{Prelude.{◌≡◌, ◌+◌, ◌≤◌, ◌<◌, [], ◌∷◌, ◌++◌, flat_map, OnOk, OnErr, IsErrOf}, Io.KnownBytes.{Appends}};
 ghost use Rattle.amt_ports.specs.Causes.{Rose};
 ghost use Rattle.relay_machine.specs.{Answers.{After, RelayAt, outcome_of, rows_after, sends_of, settings_of}, EventSize.{IsEvent}};
 ghost use Rattle.script_lines.specs.{Counting.{CountsWrites}, Writing.{WritesPrefix, WritesUpTo}};

@@ -1,11 +1,11 @@
 //! The settings and items of lines, by their kind and the fields after its words. It knows no line before.
 
-ghost use Rattle.std.specs.Prelude.{◌≡◌, ◌⊎◌, [], ◌∷◌, ◌++◌, IfOk, IfErr, IfNone};
+ghost use Rattle.std.specs.Prelude.{◌≡◌, [], ◌∷◌, ◌++◌, IfOk, IfErr};
 ghost use Rattle.amt_script.specs.declared.kind.Kind.TheVariants as kinds;
 ghost use Rattle.amt_values.specs.Conditions.{First};
 ghost use Rattle.relay_machine.specs.declared.settings.Settings.{Settings as SettingsValue};
 ghost use Rattle.script_lines.specs.{Lines.{fields}, Reading.{FailsFirst}};
-ghost use Rattle.amt_script.specs.{Fault.{FailsAs, order_of_values}, Row.{words_of, form_of_key}, Running.{IsItem}, Says.{SaysItem, SaysSetting}, Setting.{key_of}};
+ghost use Rattle.amt_script.specs.{Fault.{FailsAs, order_of_values}, Row.{words_of}, Running.{IsItem}, Says.{SaysItem, SaysSetting}, Setting.{key_of}};
 
 use crate::kind::Key;
 use crate::script::RelayItem;

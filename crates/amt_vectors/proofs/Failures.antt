@@ -15,16 +15,14 @@ told : (Holds : Reason → Type 0) (order : List Reason) (reason : Reason) (Fact
 told Holds order reason Fact error first (inl memory) = subst (FailsFirst Holds order) (sym memory) tt
 told Holds order reason Fact error first (inr bad) = subst (FailsFirst Holds order) (sym bad.0) (first bad.1)
 
-none_of_three : ⊥ ⊎ (⊥ ⊎ (⊥ ⊎ ⊥)) → ⊥
-none_of_three (inl h) = h
-none_of_three (inr (inl h)) = h
-none_of_three (inr (inr (inl h))) = h
-none_of_three (inr (inr (inr h))) = h
-
 none_of_two : ⊥ ⊎ (⊥ ⊎ ⊥) → ⊥
 none_of_two (inl h) = h
 none_of_two (inr (inl h)) = h
 none_of_two (inr (inr h)) = h
+
+none_of_three : ⊥ ⊎ (⊥ ⊎ (⊥ ⊎ ⊥)) → ⊥
+none_of_three (inl h) = h
+none_of_three (inr h) = none_of_two h
 
 module _ (values : List (List ℕ)) (key message out : List ℕ) (parts : values ≡ key ∷ message ∷ out ∷ []) where
   hmac_hex : SomeFieldFails (fields_of kinds.Hmac) (key ∷ message ∷ out ∷ []) reasons.Hex → First (FailsAs kinds.Hmac values) order_of_values reasons.Hex
@@ -113,33 +111,6 @@ module _ (kind : RowKind) (most : ℕ) (fields_are : fields_of kind ≡ of_form 
       subst (First (FailsAs kind values) order_of_values) (sym is) (code_number (inl (number (ap (λ (r : Reason). Err r) is))))
   code_bad reason want wants number range (inr is) =
       subst (First (FailsAs kind values) order_of_values) (sym is) (code_range (range (ap (λ (r : Reason). Err r) is)) wants.1)
-
-code4_count : (code value : List ℕ) → HasOtherFieldCount kinds.Code4 (code ∷ value ∷ []) → ⊥
-code4_count code value other = other refl
-
-code6_count : (code value : List ℕ) → HasOtherFieldCount kinds.Code6 (code ∷ value ∷ []) → ⊥
-code6_count code value other = other refl
-
-module _ (values : List (List ℕ)) (code value : List ℕ) (parts : values ≡ code ∷ value ∷ []) where
-  pub code4_value : (error : LineError) → IsBadFor reasons.Number (FieldFails some_digits value reasons.Number) error
-      → FailsFirst (FailsAs kinds.Code4 values) order_of_values error
-  code4_value = code_value_bad kinds.Code4 255 refl code4_count values code value parts
-
-  pub code6_value : (error : LineError) → IsBadFor reasons.Number (FieldFails some_digits value reasons.Number) error
-      → FailsFirst (FailsAs kinds.Code6 values) order_of_values error
-  code6_value = code_value_bad kinds.Code6 65535 refl code6_count values code value parts
-
-  pub code4_code : (reason : Reason) (want : List ℕ) → WantsNumber want value
-      → (IsErrOf {T = ℕ} {E = Reason} (Err reason) reasons.Number → Fails (a_number 0 255) code reasons.Number)
-      → (IsErrOf {T = ℕ} {E = Reason} (Err reason) reasons.Range → Fails (a_number 0 255) code reasons.Range) → (reason ≡ reasons.Number) ⊎ (reason ≡ reasons.Range)
-      → FailsFirst (FailsAs kinds.Code4 values) order_of_values (Bad reason)
-  code4_code = code_bad kinds.Code4 255 refl code4_count values code value parts
-
-  pub code6_code : (reason : Reason) (want : List ℕ) → WantsNumber want value
-      → (IsErrOf {T = ℕ} {E = Reason} (Err reason) reasons.Number → Fails (a_number 0 65535) code reasons.Number)
-      → (IsErrOf {T = ℕ} {E = Reason} (Err reason) reasons.Range → Fails (a_number 0 65535) code reasons.Range) → (reason ≡ reasons.Number) ⊎ (reason ≡ reasons.Range)
-      → FailsFirst (FailsAs kinds.Code6 values) order_of_values (Bad reason)
-  code6_code = code_bad kinds.Code6 65535 refl code6_count values code value parts
 
 -- a line's first word is that of a kind, so it fails as that kind does
 module _ (kind : RowKind) (values : List (List ℕ)) where

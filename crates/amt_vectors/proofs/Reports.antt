@@ -30,36 +30,30 @@ record AreOne (before before' : List Row) (row row' : Row) : Type 0 where
   lists : before ≡ before'
   last : row ≡ row'
 
-same_first : (x y : Row) (xs ys : List Row) → x ∷ xs ≡ y ∷ ys → x ≡ y
-same_first x y xs ys same = cc
-
-same_rest : (x y : Row) (xs ys : List Row) → x ∷ xs ≡ y ∷ ys → xs ≡ ys
-same_rest x y xs ys same = cc
-
 first_once : (before before' : List Row) (row row' : Row) (after after' : List Row) → before ++ row ∷ after ≡ before' ++ row' ∷ after'
     → AllByRecursion Passes before → AllByRecursion Passes before' → (Passes row → ⊥) → (Passes row' → ⊥) → AreOne before before' row row'
-first_once [] [] row row' after after' same h k wrong wrong' = record { lists = refl; last = same_first row row' after after' same }
+first_once [] [] row row' after after' same h k wrong wrong' = record { lists = refl; last = cc same }
 first_once [] (y ∷ ys) row row' after after' same h k wrong wrong' =
-    absurd (wrong (subst Passes (sym (same_first row y after (ys ++ row' ∷ after') same)) k.0))
+    let is : y ≡ row = cc same in absurd (wrong (subst Passes is k.0))
 first_once (x ∷ xs) [] row row' after after' same h k wrong wrong' =
-    absurd (wrong' (subst Passes (same_first x row' (xs ++ row ∷ after) after' same) h.0))
+    let is : x ≡ row' = cc same in absurd (wrong' (subst Passes is h.0))
 first_once (x ∷ xs) (y ∷ ys) row row' after after' same h k wrong wrong' =
-    let later = first_once xs ys row row' after after' (same_rest x y (xs ++ row ∷ after) (ys ++ row' ∷ after') same) h.1 k.1 wrong wrong' in
-    let here = same_first x y (xs ++ row ∷ after) (ys ++ row' ∷ after') same in
+    let here : x ≡ y = cc same in
+    let rest : xs ++ row ∷ after ≡ ys ++ row' ∷ after' = cc same in
+    let later = first_once xs ys row row' after after' rest h.1 k.1 wrong wrong' in
     record { lists = rw (here, later.lists) refl; last = later.last }
 
 pass_here : (before : List Row) (row : Row) (after rows : List Row) → rows ≡ before ++ row ∷ after → AllByRecursion Passes rows → Passes row
 pass_here [] row after rows parts all = (subst (AllByRecursion Passes) parts all).0
 pass_here (x ∷ xs) row after rows parts all = pass_here xs row after (xs ++ row ∷ after) refl (subst (AllByRecursion Passes) parts all).1
 
-same_bad : (one other : Bad) → one.number ≡ other.number → one.want ≡ other.want → one.have ≡ other.have → one ≡ other
-same_bad one other same_number same_want same_have = λ i. record { number = same_number i; want = same_want i; have = same_have i }
-
 bad_once : (number number' : ℕ) (row row' : Row) (one other : Bad) → number ≡ number' → row ≡ row' → IsBadRow number row one → IsBadRow number' row' other → one ≡ other
 bad_once number number' row row' one other same same_row h k =
     let moved = subst (λ (r : Row). IsBadRow number r one) same_row h in
-    same_bad one other (moved.number_is ∙ (same ∙ sym k.number_is)) (moved.want_is ∙ sym k.want_is)
-    (IsAnswer-unique row'.question one.have other.have moved.have_is k.have_is)
+    let number_is = moved.number_is ∙ (same ∙ sym k.number_is) in
+    let want_is = moved.want_is ∙ sym k.want_is in
+    let have_is = IsAnswer-unique row'.question one.have other.have moved.have_is k.have_is in
+    λ i. record { number = number_is i; want = want_is i; have = have_is i }
 
 abbrev told : ℕ → Option Bad → SuiteReport
 told passed bad = record { passed = passed; bad = bad }
@@ -135,8 +129,7 @@ passed_all count rows i passed end within before =
 
 -- where no other answer was found, the row passes
 pub passes_of : (row : Row) (other : Option (List ℕ)) → other ≡ None → MatchOption other (Passes row) (IsOther row) → Passes row
-passes_of row None none found = found
-passes_of row (Some have) none found = cc none
+passes_of row other none found = subst (λ (o : Option (List ℕ)). MatchOption o (Passes row) (IsOther row)) none found
 
 -- the rows around one of them
 around : (rows : List Row) (i : ℕ) (row : Row) → i < length rows → row ≡ get_or rows i row → rows ≡ take i rows ++ row ∷ drop (i + 1) rows
@@ -159,27 +152,18 @@ bad_after count rows i passed row bad within is before is_bad = record {
 }
 
 -- the report of rows that are given first and of others, by that of the first ones
-after_none : (given rows : List Row) (count passed : ℕ) (none bad : Option Bad) → none ≡ None → ReportsAfter 0 given count none → ReportsAfter count rows passed bad
-    → Reports (given ++ rows) passed bad
-after_none given rows count passed None bad is first after = after_all given rows count passed bad first.0 (omega (arith, first.1)) after
-after_none given rows count passed (Some other) bad is first after = cc is
-
 pub both_pass : (given rows : List Row) (first report : SuiteReport) → first.bad ≡ None → IsReportAfter 0 given first
     → IsReportAfter first.passed rows report → IsReportOf (given ++ rows) report
-both_pass given rows first report none before after = after_none given rows first.passed report.passed first.bad report.bad none before after
-
-after_some : (given rows : List Row) (passed : ℕ) (bad : Option Bad) (some : Bad) → bad ≡ Some some → ReportsAfter 0 given passed bad
-    → Reports (given ++ rows) passed bad
-after_some given rows passed None some is first = cc is
-after_some given rows passed (Some bad) some is first = among_first given rows passed bad first
+both_pass given rows first report none before after =
+    let all = subst (ReportsAfter 0 given first.passed) none before in
+    after_all given rows first.passed report.passed report.bad all.0 (omega (arith, all.1)) after
 
 pub first_fails : (given rows : List Row) (report : SuiteReport) (bad : Bad) → report.bad ≡ Some bad → IsReportAfter 0 given report
     → IsReportOf (given ++ rows) report
-first_fails given rows report bad some first = after_some given rows report.passed report.bad bad some first
-
-count_none : (given : List Row) (passed : ℕ) (bad : Option Bad) → bad ≡ None → ReportsAfter 0 given passed bad → passed ≡ length given
-count_none given passed None none first = omega (arith, first.1)
-count_none given passed (Some bad) none first = cc none
+first_fails given rows report bad some first =
+    subst (Reports (given ++ rows) report.passed) (sym some)
+    (among_first given rows report.passed bad (subst (ReportsAfter 0 given report.passed) some first))
 
 pub first_passed : (given : List Row) (report : SuiteReport) → report.bad ≡ None → IsReportAfter 0 given report → report.passed ≡ length given
-first_passed given report none first = count_none given report.passed report.bad none first
+first_passed given report none first =
+    let all = subst (ReportsAfter 0 given report.passed) none first in omega (arith, all.1)

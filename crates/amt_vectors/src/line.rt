@@ -88,7 +88,7 @@ fn read_decode(alloc: Global, values: &[u8]) -> Result<Row, LineError>
 }
 
 // `code4 CODE VALUE`. The value is read first, since the reason of a number out of range is the last one.
-#[tactic(auto, using(crate::proofs::Failures::code4_value, crate::proofs::Failures::code4_code))]
+#[tactic(auto, using(crate::proofs::Failures::code_value_bad, crate::proofs::Failures::code_bad))]
 fn read_code4(alloc: Global, values: &[u8]) -> Result<Row, LineError>
     ensures found { IfOk result (λ row. SaysRow row (word_of kinds.Code4 ∷ fields values.now)) }
     ensures reason { IfErr result (FailsFirst (FailsAs kinds.Code4 (fields values.now)) order_of_values) }
@@ -110,7 +110,7 @@ fn read_code4(alloc: Global, values: &[u8]) -> Result<Row, LineError>
 }
 
 // `code6 CODE VALUE`.
-#[tactic(auto, using(crate::proofs::Failures::code6_value, crate::proofs::Failures::code6_code))]
+#[tactic(auto, using(crate::proofs::Failures::code_value_bad, crate::proofs::Failures::code_bad))]
 fn read_code6(alloc: Global, values: &[u8]) -> Result<Row, LineError>
     ensures found { IfOk result (λ row. SaysRow row (word_of kinds.Code6 ∷ fields values.now)) }
     ensures reason { IfErr result (FailsFirst (FailsAs kinds.Code6 (fields values.now)) order_of_values) }

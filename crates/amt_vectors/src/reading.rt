@@ -5,7 +5,7 @@ ghost use Rattle.script_lines.specs.Script.{Spells, IsErrorOf, RulesOutScripts, 
 ghost use Rattle.amt_vectors.specs.{Kind.{vector_kind}, Reading.{CanAsk}};
 
 use crate::line::read_row;
-use crate::row::{Row, Rows};
+use crate::row::Rows;
 use script_lines::{LineError, Reason, ScriptError, ScriptKind, read_script};
 use std::alloc::Global;
 

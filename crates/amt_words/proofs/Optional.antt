@@ -1,8 +1,8 @@
 -- What a parse found, in a command of a required word and options.
-use Rattle.std.{proofs.{Common.{◌≡◌, ◌∙◌, ◌<◌, ◌≤◌, ◌++◌, ◌||◌, ℕ, zero, suc, true, false, List, [], ◌∷◌, length, Option, Some, None, codes, refl, sym, subst, ap, inl, inr, arith}, lemmas.{List.Elements.{All-get_or, All-nil}, Slice.Eq.{bytes_eq-Decides}}}, specs.{Prelude.{pos}, Borrow.{Bor}, List.{All, slice_index_or}, Str.{bytes_eq}}}
+use Rattle.std.{proofs.{Common.{◌≡◌, ◌∙◌, ◌<◌, ◌≤◌, ◌++◌, ◌||◌, ℕ, suc, true, false, List, [], ◌∷◌, length, Option, Some, None, codes, refl, sym, subst, ap, inl, inr, arith}, lemmas.{List.Elements.{All-get_or, All-nil}, Slice.Eq.{bytes_eq-Decides}}}, specs.{Prelude.{pos}, Borrow.{Bor}, List.{All, slice_index_or}, Str.{bytes_eq}}}
 use Rattle.clap.specs.{Words.{Accepts, AddsArg, IsParsedFrom, IsPlain, IsPlainArg, IsSignedIn, Text, args_of, found_of, groups_of, has_subcommand, matched_of, one_text, reading_of, without_minus}, Built.{SameRules, TakesValue}, Facts.{least_values, Entry, EntryPasses, IsParsed, PassesArg, parser_of, parser_of_value}, declared.builder.arg.Arg.{Arg}}
 use Rattle.clap.{specs.declared.{builder.{command.Command.{Command, TheViews.{out-Command}}, value_parser.{Reading.TheVariants.{WithoutMinus}, ValueParser.{ValueParser, TheVariants.{Signed}}}}, parser.matches.{ArgMatches.{ArgMatches}, Found.{Found}, MatchedArg.{MatchedArg}}}, proofs.CallerLemmas.{added_plain, entry_by_id, required_has_value, same_rules_by_id}}
-use Rattle.amt_words.{specs.Given.{HasNumberIfAny, HasWord}, proofs.Numbers.{same_value, text_differs}}
+use Rattle.amt_words.{specs.Given.{HasNumberIfAny, HasWord}, proofs.Numbers.{IsOnly, IsOwnId, only_at, same_value, text_differs}}
 
 -- the text of an entry with this first value, read without a minus
 text_at : (f : Found) (id : Text) (x : MatchedArg) (v : Bor Text) (rest : List (Bor Text)) → matched_of f id ≡ Some x → x.vals.items ≡ v ∷ rest
@@ -16,10 +16,8 @@ no_text f id x found vals = rw (found, vals) refl
 pub optional_number_at : (cmd : Command) (m : ArgMatches) → IsParsedFrom cmd m → IsPlain cmd → (out-Command cmd).has_globals ≡ false
     → (k : ℕ) (a : Arg) (id : Text) (least most : ℕ) → k < length (args_of cmd) → slice_index_or (args_of cmd) k a ≡ a
     → a.value_parser ≡ Some (Signed (pos least) (pos most)) → a.id.now ≡ id
-    → ((j : ℕ) (e : Arg) → j < length (args_of cmd) → bytes_eq (slice_index_or (args_of cmd) j e).id.now id ≡ true → j ≡ k)
-    → (id ≡ [] → ⊥) → (id ≡ codes "help" → ⊥) → (id ≡ codes "version" → ⊥)
-    → HasNumberIfAny (found_of m) id least most
-optional_number_at cmd m p plain globals k a id least most lt at parser is unique named help version =
+    → IsOnly k id 0 (args_of cmd) → IsOwnId id → HasNumberIfAny (found_of m) id least most
+optional_number_at cmd m p plain globals k a id least most lt at parser is only own =
     whole (matched_of (found_of m) id) refl
   where
     b : Arg
@@ -36,8 +34,8 @@ optional_number_at cmd m p plain globals k a id least most lt at parser is uniqu
 
     rules : (j : ℕ) (x : Arg) → j < length (args_of p.built) → slice_index_or (args_of p.built) j x ≡ x → bytes_eq x.id.now id ≡ true → SameRules b x
     rules j x high there same = same_rules_by_id cmd m p k a lt
-        (λ i e low eq. unique i e low (subst (λ (t : Text). bytes_eq (slice_index_or (args_of cmd) i e).id.now t ≡ true) b_id eq))
-        (λ auto. elim auto [ inl h ↦ help (sym b_id ∙ h) | inr h ↦ version (sym b_id ∙ h) ])
+        (λ i e low eq. only_at k id (args_of cmd) only i e low (subst (λ (t : Text). bytes_eq (slice_index_or (args_of cmd) i e).id.now t ≡ true) b_id eq))
+        (λ auto. elim auto [ inl h ↦ text_differs id _ own.1 (sym b_id ∙ h) | inr h ↦ text_differs id _ own.2 (sym b_id ∙ h) ])
         j x high there (subst (λ (t : Text). bytes_eq x.id.now t ≡ true) (sym b_id) same)
 
     parser_is : (x : Arg) → SameRules b x → parser_of x ≡ Signed (pos least) (pos most)
@@ -45,7 +43,7 @@ optional_number_at cmd m p plain globals k a id least most lt at parser is uniqu
 
     no_group : (e : Entry) → e.0.now ≡ id → EntryPasses p.built e → e.1.is_group ≡ true → ⊥
     no_group e key pass g = elim (pass.3 g) [
-      | inl empty ↦ named (sym key ∙ empty)
+      | inl empty ↦ text_differs id [] own.0 (sym key ∙ empty)
       | inr lots ↦
           let bad : 0 < 0 = rw (p.from.plain plain).1 at lots in
           absurd (omega arith)
@@ -86,63 +84,21 @@ optional_number_at cmd m p plain globals k a id least most lt at parser is uniqu
         let got = entry_by_id (EntryPasses p.built) (found_of m).entries.items id x parsed.values found in
         entry x got.0 x.vals.items found got.1 ((bytes_eq-Decides got.0.0.now id).0 got.2) got.3 refl
 
--- no argument of the list has this id
-abbrev LacksId : Text → List Arg → Type 0
-LacksId id args = (j : ℕ) (e : Arg) → j < length args → bytes_eq (slice_index_or args j e).id.now id ≡ true → ⊥
-
-none_lacks : (id : Text) → LacksId id []
-none_lacks id j e lt eq = absurd (omega arith)
-
-one_lacks : (id : Text) (z : Arg) → bytes_eq z.id.now id ≡ false → LacksId id (z ∷ [])
-one_lacks id z is zero e lt eq =
-    let no : false ≡ true = sym is ∙ eq in
-    cc
-one_lacks id z is (suc j) e lt eq = absurd (omega arith)
-
-file_alone : (x y : Arg) (rest : List Arg) → y.id.now ≡ codes "turns" → LacksId (codes "FILE") rest → (j : ℕ) (e : Arg) → j < length (x ∷ y ∷ rest)
-    → bytes_eq (slice_index_or (x ∷ y ∷ rest) j e).id.now (codes "FILE") ≡ true → j ≡ 0
-file_alone x y rest is lacks zero e lt eq = refl
-file_alone x y rest is lacks (suc zero) e lt eq =
-    let no : false ≡ true = rw is at eq in
-    cc
-file_alone x y rest is lacks (suc (suc j)) e lt eq = absurd (lacks j e (omega arith) eq)
-
-turns_alone : (x y : Arg) (rest : List Arg) → x.id.now ≡ codes "FILE" → LacksId (codes "turns") rest → (j : ℕ) (e : Arg) → j < length (x ∷ y ∷ rest)
-    → bytes_eq (slice_index_or (x ∷ y ∷ rest) j e).id.now (codes "turns") ≡ true → j ≡ 1
-turns_alone x y rest is lacks zero e lt eq =
-    let no : false ≡ true = rw is at eq in
-    cc
-turns_alone x y rest is lacks (suc zero) e lt eq = refl
-turns_alone x y rest is lacks (suc (suc j)) e lt eq = absurd (lacks j e (omega arith) eq)
-
-workers_alone : (x y z : Arg) → x.id.now ≡ codes "FILE" → y.id.now ≡ codes "turns" → (j : ℕ) (e : Arg) → j < length (x ∷ y ∷ z ∷ [])
-    → bytes_eq (slice_index_or (x ∷ y ∷ z ∷ []) j e).id.now (codes "workers") ≡ true → j ≡ 2
-workers_alone x y z file turns zero e lt eq =
-    let no : false ≡ true = rw file at eq in
-    cc
-workers_alone x y z file turns (suc zero) e lt eq =
-    let no : false ≡ true = rw turns at eq in
-    cc
-workers_alone x y z file turns (suc (suc zero)) e lt eq = refl
-workers_alone x y z file turns (suc (suc (suc j))) e lt eq = absurd (omega arith)
-
 -- the required argument at place k has a word
 word_at : (cmd : Command) (m : ArgMatches) → IsParsedFrom cmd m → IsPlain cmd
     → (out-Command cmd).has_globals ≡ false → (out-Command cmd).subcommand_negates_reqs ≡ false
     → (k : ℕ) (a : Arg) (id : Text) → k < length (args_of cmd) → slice_index_or (args_of cmd) k a ≡ a → TakesValue a → a.id.now ≡ id
-    → ((j : ℕ) (e : Arg) → j < length (args_of cmd) → bytes_eq (slice_index_or (args_of cmd) j e).id.now id ≡ true → j ≡ k)
-    → (id ≡ [] → ⊥) → (id ≡ codes "help" → ⊥) → (id ≡ codes "version" → ⊥)
-    → HasWord (found_of m) id
-word_at cmd m p plain globals negates k a id lt at takes is unique named help version =
+    → IsOnly k id 0 (args_of cmd) → IsOwnId id → HasWord (found_of m) id
+word_at cmd m p plain globals negates k a id lt at takes is only own =
     let same : (slice_index_or (args_of cmd) k a).id.now ≡ id = ap (λ (x : Arg). x.id.now) at ∙ is in
     subst (HasWord (found_of m)) same (required_has_value cmd m p plain globals negates k a lt
     (ap (λ (x : Arg). x.required) at ∙ takes.0)
     (ap (λ (x : Arg). x.action) at ∙ takes.1)
     (ap (λ (x : Arg). x.val_delim) at ∙ takes.2)
     (subst (λ (x : Arg). 1 ≤ least_values x) (sym at) takes.3)
-    (λ j e low eq. unique j e low (subst (λ (t : Text). bytes_eq (slice_index_or (args_of cmd) j e).id.now t ≡ true) same eq))
-    (λ empty. named (sym same ∙ empty))
-    (λ auto. elim auto [ inl h ↦ help (sym same ∙ h) | inr h ↦ version (sym same ∙ h) ]))
+    (λ j e low eq. only_at k id (args_of cmd) only j e low (subst (λ (t : Text). bytes_eq (slice_index_or (args_of cmd) j e).id.now t ≡ true) same eq))
+    (λ empty. text_differs id [] own.0 (sym same ∙ empty))
+    (λ auto. elim auto [ inl h ↦ text_differs id _ own.1 (sym same ∙ h) | inr h ↦ text_differs id _ own.2 (sym same ∙ h) ]))
 
 abbrev IsOwn : Arg → Type 0
 IsOwn a = IsPlainArg a × (a.global ≡ false)
@@ -166,23 +122,15 @@ record Serves (cmd : Command) (x y : Arg) (rest : List Arg) : Type 0 where
   parser : y.value_parser ≡ Some (Signed (pos 1) (pos 1099511627776))
 
 found_serving : (cmd : Command) (x y : Arg) (rest : List Arg) (m : ArgMatches) → Serves cmd x y rest
-    → LacksId (codes "FILE") rest → LacksId (codes "turns") rest → IsParsedFrom cmd m → HasServing (found_of m)
+    → IsOnly 0 (codes "FILE") 2 rest → IsOnly 1 (codes "turns") 2 rest → IsParsedFrom cmd m → HasServing (found_of m)
 found_serving cmd x y rest m s no_file no_turns p =
     let count : length (args_of cmd) ≡ suc (suc (length rest)) = ap (λ (l : List Arg). length l) s.args in (
       word_at cmd m p s.plain s.globals s.negates 0 x (codes "FILE") (omega arith)
           (ap (λ (l : List Arg). slice_index_or l 0 x) s.args) s.takes s.file
-          (subst (λ (l : List Arg). (j : ℕ) (e : Arg) → j < length l → bytes_eq (slice_index_or l j e).id.now (codes "FILE") ≡ true → j ≡ 0)
-          (sym s.args) (file_alone x y rest s.turns no_file))
-          (λ e. text_differs _ _ 4 0 e refl refl (λ n. absurd (omega arith)))
-          (λ e. let no : 70 ≡ 104 = ap (λ (t : Text). slice_index_or t 0 0) e in absurd (omega arith))
-          (λ e. text_differs _ _ 4 7 e refl refl (λ n. absurd (omega arith))),
+          (subst (IsOnly 0 (codes "FILE") 0) (sym s.args) (inr refl, (inl (rw s.turns refl), no_file))) (refl, refl, refl),
       optional_number_at cmd m p s.plain s.globals 1 y (codes "turns") 1 1099511627776 (omega arith)
           (ap (λ (l : List Arg). slice_index_or l 1 y) s.args) s.parser s.turns
-          (subst (λ (l : List Arg). (j : ℕ) (e : Arg) → j < length l → bytes_eq (slice_index_or l j e).id.now (codes "turns") ≡ true → j ≡ 1)
-          (sym s.args) (turns_alone x y rest s.file no_turns))
-          (λ e. text_differs _ _ 5 0 e refl refl (λ n. absurd (omega arith)))
-          (λ e. text_differs _ _ 5 4 e refl refl (λ n. absurd (omega arith)))
-          (λ e. text_differs _ _ 5 7 e refl refl (λ n. absurd (omega arith))),
+          (subst (IsOnly 1 (codes "turns") 0) (sym s.args) (inl (rw s.file refl), (inr refl, no_turns))) (refl, refl, refl),
     )
 
 module _ (start one two : Command) (a b : Arg) (first : AddsArg start a one) (second : AddsArg one b two) (empty : args_of start ≡ []) (groups : groups_of start ≡ [])
@@ -203,7 +151,7 @@ module _ (start one two : Command) (a b : Arg) (first : AddsArg start a one) (se
   }
 
   pub gateway_given : (m : ArgMatches) → IsParsedFrom two m → HasWord (found_of m) (codes "FILE") × HasNumberIfAny (found_of m) (codes "turns") 1 1099511627776
-  gateway_given m p = found_serving two first.arg second.arg [] m serving (none_lacks (codes "FILE")) (none_lacks (codes "turns")) p
+  gateway_given m p = found_serving two first.arg second.arg [] m serving tt tt p
 
   -- and one of `--workers` besides
   pub relay_given : (cmd : Command) (c : Arg) (m : ArgMatches) → AddsArg two c cmd → IsOwn c → c.id.now ≡ codes "workers"
@@ -224,15 +172,11 @@ module _ (start one two : Command) (a b : Arg) (first : AddsArg start a one) (se
         turns = serving.turns;
         parser = serving.parser;
       } in
-      let found = found_serving cmd x y (z ∷ []) m serves (one_lacks (codes "FILE") z (rw named refl)) (one_lacks (codes "turns") z (rw named refl)) p in
+      let found = found_serving cmd x y (z ∷ []) m serves (inl (rw named refl), tt) (inl (rw named refl), tt) p in
       let three : length (args_of cmd) ≡ 3 = ap (λ (l : List Arg). length l) serves.args in (
         found.0,
         found.1,
         optional_number_at cmd m p serves.plain serves.globals 2 z (codes "workers") 0 64 (omega arith)
             (ap (λ (l : List Arg). slice_index_or l 2 z) serves.args) (third.rules.parser _ parser_c) named
-            (subst (λ (l : List Arg). (j : ℕ) (e : Arg) → j < length l → bytes_eq (slice_index_or l j e).id.now (codes "workers") ≡ true → j ≡ 2)
-            (sym serves.args) (workers_alone x y z serves.file serves.turns))
-            (λ e. text_differs _ _ 7 0 e refl refl (λ n. absurd (omega arith)))
-            (λ e. text_differs _ _ 7 4 e refl refl (λ n. absurd (omega arith)))
-            (λ e. let no : 119 ≡ 118 = ap (λ (t : Text). slice_index_or t 0 0) e in absurd (omega arith)),
+            (subst (IsOnly 2 (codes "workers") 0) (sym serves.args) (inl (rw serves.file refl), (inl (rw serves.turns refl), (inr refl, tt)))) (refl, refl, refl),
       )

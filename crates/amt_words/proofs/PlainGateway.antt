@@ -1,7 +1,7 @@
 -- The plain lines of `gateway` are taken, and give what they say.
 use Rattle.std.{proofs.Common.{◌≡◌, ◌∙◌, ℕ, List, [], ◌∷◌, Option, Some, None, codes, refl, ap, arith}, specs.{Prelude.{IfSome, option_map}, Str.Parse.{digits_value}}}
-use Rattle.clap.{specs.{Words.{Row, Shape, Text, built, first_of, one_of}, Walk.{Walk, finished, nothing_held, walk}, Faults.{walk_fault}}, proofs.OnLiterals.{clap_on_literals}}
-use Rattle.amt_words.{specs.{declared.command.Command.TheVariants.{Gateway}, Line.{IsCommandLine, IsNumberIn, IsPlainWord, number_of, option_words, turns_or_most}, Usage.{gateway_usage}}, proofs.{Digits.{IsPlain, Passes, digits_plain, number_passes, plain_word}, Steps.{Steps, after_file, filled, file_row, given_turns, one_step, opened, start, three_steps}, Walks.{end_kinds, rows_at_end, taken}}}
+use Rattle.clap.{specs.{Words.{Row, Shape, Text, built, first_of, one_of}, Walk.{Walk, finished}}, proofs.OnLiterals.{clap_on_literals}}
+use Rattle.amt_words.{specs.{declared.command.Command.TheVariants.{Gateway}, Line.{IsCommandLine, IsNumberIn, IsPlainWord, number_of, option_words, turns_or_most}, Usage.{gateway_usage}}, proofs.{Digits.{IsPlain, Passes, digits_plain, number_passes, plain_word}, Steps.{Path, Steps, after_file, filled, file_row, given_turns, opened, start, walked_by}, Walks.{end_kinds, rows_at_end, taken}}}
 
 abbrev top : Shape
 top = (built gateway_usage).top
@@ -29,14 +29,15 @@ end_turns file turns p = rw p refl
 
 -- the line is taken, and what the walk ends with is what it gives
 line_at : (file : Text) (turns : ℕ) (words : List Text) (w : Walk)
-    → walk top.rules [] nothing_held (file ∷ words) ≡ w → walk_fault top [] start (file ∷ words) ≡ [] → end_kinds gateway_usage w ≡ []
+    → Path top start (file ∷ words) w → end_kinds gateway_usage w ≡ []
     → first_of (codes "FILE") (finished top.rules w.held) ≡ Some file
     → turns_or_most (option_map number_of (one_of (codes "turns") (finished top.rules w.held))) ≡ turns
     → IsCommandLine (Gateway file turns) (codes "gateway" ∷ file ∷ words)
-line_at file turns words w walks faults ends file_is turns_are =
-    let rows = rows_at_end gateway_usage (file ∷ words) w refl refl walks in (
+line_at file turns words w steps ends file_is turns_are =
+    let walked = walked_by top start w (file ∷ words) steps in
+    let rows = rows_at_end gateway_usage (file ∷ words) w refl refl walked.0 in (
       refl,
-      taken gateway_usage (file ∷ words) w refl refl walks faults ends,
+      taken gateway_usage (file ∷ words) w refl refl walked.0 walked.1 ends,
       record {
         file_is = ap (first_of (codes "FILE")) rows ∙ file_is;
         turns_are = ap (λ (r : List Row). turns_or_most (option_map number_of (one_of (codes "turns") r))) rows ∙ turns_are;
@@ -45,10 +46,9 @@ line_at file turns words w walks faults ends file_is turns_are =
 
 pub gateway_line : (file : Text) → (turns : Option Text) → IsPlainWord file → IfSome turns (IsNumberIn 1 1099511627776)
     → IsCommandLine (Gateway file (turns_or_most (option_map (digits_value 10) turns))) (codes "gateway" ∷ file ∷ option_words (codes "--turns") turns)
-gateway_line file None h t =
-    let first = file_step file (plain_word file h) in
-    line_at file _ [] (after_file file) first.0 (one_step top start (after_file file) file first) (end_bare file) refl refl
+gateway_line file None h t = line_at file _ [] (after_file file) (after_file file, file_step file (plain_word file h), refl) (end_bare file) refl refl
 gateway_line file (Some turns) h t =
-    let steps = three_steps top start (after_file file) (opened (codes "turns") (file_row file ∷ [])) (filled (codes "turns") (file_row file ∷ []) turns)
-    file (codes "--turns") turns (file_step file (plain_word file h)) (turns_step file) (turns_filled (file_row file ∷ []) turns (digits_plain turns t.0)) in
-    line_at file _ _ _ steps.0 steps.1 (end_turns file turns (number_passes 1 1099511627776 turns (omega arith) t)) refl (given_turns turns t)
+    let rows = file_row file ∷ [] in
+    line_at file _ _ (filled (codes "turns") rows turns)
+    (after_file file, file_step file (plain_word file h), (opened (codes "turns") rows, turns_step file, (filled (codes "turns") rows turns, turns_filled rows turns (digits_plain turns t.0), refl)))
+    (end_turns file turns (number_passes 1 1099511627776 turns (omega arith) t)) refl (given_turns turns t)

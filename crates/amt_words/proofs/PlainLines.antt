@@ -1,8 +1,8 @@
 -- The plain lines of each command are taken, and give what they say.
 use Rattle.std.{proofs.Common.{◌≡◌, ◌∙◌, ℕ, List, [], ◌∷◌, Some, codes, refl, ap, arith}, specs.{Prelude.{option_map}, Str.Parse.{digits_value}}}
-use Rattle.clap.{specs.{Words.{Row, Shape, Text, built, matches_of, one_of, without_minus}, Walk.{Walk, nothing_held, walk, walk_from, walked}, Faults.{turn_fault, walk_fault}}, proofs.OnLiterals.{clap_on_literals}}
-use Rattle.amt_words.specs.{declared.command.{Command.TheVariants.{Replay, Dump, Vectors, Load}, Replayable.{Replayable}}, Line.{IsCommandLine, IsNumberIn, TakesPlainLines, number_in, number_of}}
-use Rattle.amt_words.{specs.Usage.{Takes, load_usage, replayable_name}, proofs.{Digits.{IsPlain, Passes, digits_number, digits_plain, number_passes}, PlainGateway.{gateway_line}, PlainRelay.{relay_line}, Walks.{end_kinds, number_row, rows_at_end, taken}}}
+use Rattle.clap.{specs.{Words.{Row, Shape, Text, built, one_of}, Walk.{Walk, nothing_held}}, proofs.OnLiterals.{clap_on_literals}}
+use Rattle.amt_words.specs.{declared.command.{Command.TheVariants.{Replay, Dump, Vectors, Load}, Replayable.{Replayable}}, Line.{IsCommandLine, IsNumberIn, TakesPlainLines, number_of}}
+use Rattle.amt_words.{specs.Usage.{load_usage, replayable_name}, proofs.{Digits.{IsPlain, Passes, digits_number, digits_plain, number_passes}, PlainGateway.{gateway_line}, PlainRelay.{relay_line}, Steps.{Path, Steps, start, walked_by}, Walks.{end_kinds, number_row, rows_at_end, taken}}}
 use Rattle.amt_words.specs.declared.command.Replayable.TheVariants as kinds
 
 pub replay_line : (kind : Replayable) → IsCommandLine (Replay kind) (codes "replay" ∷ replayable_name kind ∷ [])
@@ -23,9 +23,6 @@ vectors_line = (refl, refl, tt)
 abbrev top : Shape
 top = (built load_usage).top
 
-abbrev start : Walk
-start = walk_from nothing_held
-
 abbrev after_seed : Text → Walk
 after_seed seed = record start {
   held = record nothing_held { pending = Some (codes "SEED", seed ∷ []) };
@@ -38,57 +35,32 @@ after_both seed count = record start {
   position = 3;
 }
 
-seed_walked : (seed : Text) → IsPlain seed → walked top.rules [] start seed ≡ after_seed seed
+seed_step : (seed : Text) → IsPlain seed → Steps top start seed (after_seed seed)
 unfolding clap_on_literals
-seed_walked seed h = rw (h.0, h.1, h.0) refl
+seed_step seed h = (rw (h.0, h.1, h.0) refl, rw (h.0, h.1, h.0) refl)
 
-seed_fault : (seed : Text) → IsPlain seed → turn_fault top [] start seed ≡ []
+count_step : (seed count : Text) → IsPlain count → Passes 0 4294967295 seed → Steps top (after_seed seed) count (after_both seed count)
 unfolding clap_on_literals
-seed_fault seed h = rw (h.0, h.1, h.0) refl
-
-count_walked : (seed count : Text) → IsPlain count → walked top.rules [] (after_seed seed) count ≡ after_both seed count
-unfolding clap_on_literals
-count_walked seed count h = rw (h.0, h.1, h.0) refl
-
-count_fault : (seed count : Text) → IsPlain count → Passes 0 4294967295 seed → turn_fault top [] (after_seed seed) count ≡ []
-unfolding clap_on_literals
-count_fault seed count h p = rw (h.0, h.1, h.0, p) refl
-
-walk_is : (seed count : Text) → IsPlain seed → IsPlain count → walk top.rules [] nothing_held (seed ∷ count ∷ []) ≡ after_both seed count
-walk_is seed count a b = ap (λ (w : Walk). walked top.rules [] w count) (seed_walked seed a) ∙ count_walked seed count b
-
-walk_fault_is : (seed count : Text) → IsPlain seed → IsPlain count → Passes 0 4294967295 seed → walk_fault top [] start (seed ∷ count ∷ []) ≡ []
-unfolding walk_fault
-walk_fault_is seed count a b p = rw (seed_fault seed a, seed_walked seed a, count_fault seed count b p) refl
+count_step seed count h p = (rw (h.0, h.1, h.0) refl, rw (h.0, h.1, h.0, p) refl)
 
 end_fault : (seed count : Text) → Passes 1 65536 count → end_kinds load_usage (after_both seed count) ≡ []
 unfolding clap_on_literals
 end_fault seed count p = rw p refl
 
-load_taken : (seed count : Text) → IsPlain seed → IsPlain count → Passes 0 4294967295 seed → Passes 1 65536 count
-    → Takes load_usage (seed ∷ count ∷ [])
-load_taken seed count a b p q =
-    taken load_usage (seed ∷ count ∷ []) (after_both seed count) refl refl (walk_is seed count a b) (walk_fault_is seed count a b p) (end_fault seed count q)
-
-load_rows : (seed count : Text) → IsPlain seed → IsPlain count → matches_of load_usage (seed ∷ count ∷ []) ≡ number_row (codes "SEED") seed ∷ number_row (codes "N") count ∷ []
-load_rows seed count a b = rows_at_end load_usage (seed ∷ count ∷ []) (after_both seed count) refl refl (walk_is seed count a b)
-
-seed_given : (seed count : Text) → IsPlain seed → IsPlain count → number_in load_usage (codes "SEED") (seed ∷ count ∷ []) ≡ Some (number_of (without_minus seed))
-seed_given seed count a b = ap (λ (r : List Row). option_map number_of (one_of (codes "SEED") r)) (load_rows seed count a b)
-
-count_given : (seed count : Text) → IsPlain seed → IsPlain count → number_in load_usage (codes "N") (seed ∷ count ∷ []) ≡ Some (number_of (without_minus count))
-count_given seed count a b = ap (λ (r : List Row). option_map number_of (one_of (codes "N") r)) (load_rows seed count a b)
-
 load_line : (seed count : Text) → IsNumberIn 0 4294967295 seed → IsNumberIn 1 65536 count
     → IsCommandLine (Load (digits_value 10 seed) (digits_value 10 count)) (codes "load" ∷ seed ∷ count ∷ [])
 load_line seed count s c =
-    let a = digits_plain seed s.0 in
-    let b = digits_plain count c.0 in (
+    let words = seed ∷ count ∷ [] in
+    let within = number_passes 0 4294967295 seed (omega arith) s in
+    let steps : Path top start words (after_both seed count) =
+    (after_seed seed, seed_step seed (digits_plain seed s.0), (after_both seed count, count_step seed count (digits_plain count c.0) within, refl)) in
+    let walked = walked_by top start (after_both seed count) words steps in
+    let rows = rows_at_end load_usage words (after_both seed count) refl refl walked.0 in (
       refl,
-      load_taken seed count a b (number_passes 0 4294967295 seed (omega arith) s) (number_passes 1 65536 count (omega arith) c),
+      taken load_usage words (after_both seed count) refl refl walked.0 walked.1 (end_fault seed count (number_passes 1 65536 count (omega arith) c)),
       (
-        seed_given seed count a b ∙ ap (λ (n : ℕ). Some n) (digits_number seed s.0),
-        count_given seed count a b ∙ ap (λ (n : ℕ). Some n) (digits_number count c.0),
+        ap (λ (r : List Row). option_map number_of (one_of (codes "SEED") r)) rows ∙ ap (λ (n : ℕ). Some n) (digits_number seed s.0),
+        ap (λ (r : List Row). option_map number_of (one_of (codes "N") r)) rows ∙ ap (λ (n : ℕ). Some n) (digits_number count c.0),
       ),
     )
 

@@ -1,8 +1,8 @@
 -- The plain lines of `relay` are taken, and give what they say.
 use Rattle.std.{proofs.Common.{◌≡◌, ◌∙◌, ℕ, List, [], ◌∷◌, ◌++◌, Option, Some, None, codes, refl, ap, arith}, specs.{Prelude.{IfSome, option_map}, Str.Parse.{digits_value}}}
-use Rattle.clap.{specs.{Words.{Row, Shape, Text, built, first_of, one_of, without_minus}, Walk.{Walk, finished, nothing_held, walk}, Faults.{walk_fault}}, proofs.OnLiterals.{clap_on_literals}}
+use Rattle.clap.{specs.{Words.{Row, Shape, Text, built, first_of, one_of, without_minus}, Walk.{Walk, finished}}, proofs.OnLiterals.{clap_on_literals}}
 use Rattle.amt_words.specs.{declared.command.Command.TheVariants.{Relay}, Line.{IsCommandLine, IsNumberIn, IsPlainWord, number_of, option_words, turns_or_most}, Usage.{relay_usage}}
-use Rattle.amt_words.proofs.{Digits.{IsPlain, Passes, digits_number, digits_plain, number_passes, plain_word}, Steps.{Steps, after_file, filled, file_row, five_steps, given_turns, one_step, opened, start, three_steps, turns_row}, Walks.{end_kinds, rows_at_end, taken}}
+use Rattle.amt_words.proofs.{Digits.{IsPlain, Passes, digits_number, digits_plain, number_passes, plain_word}, Steps.{Path, Steps, after_file, filled, file_row, given_turns, opened, start, turns_row, walked_by}, Walks.{end_kinds, rows_at_end, taken}}
 
 abbrev top : Shape
 top = (built relay_usage).top
@@ -52,15 +52,16 @@ end_both file turns workers p = rw p refl
 
 -- the line is taken, and what the walk ends with is what it gives
 line_at : (file : Text) (turns : ℕ) (workers : Option ℕ) (words : List Text) (w : Walk)
-    → walk top.rules [] nothing_held (file ∷ words) ≡ w → walk_fault top [] start (file ∷ words) ≡ [] → end_kinds relay_usage w ≡ []
+    → Path top start (file ∷ words) w → end_kinds relay_usage w ≡ []
     → first_of (codes "FILE") (finished top.rules w.held) ≡ Some file
     → turns_or_most (option_map number_of (one_of (codes "turns") (finished top.rules w.held))) ≡ turns
     → option_map number_of (one_of (codes "workers") (finished top.rules w.held)) ≡ workers
     → IsCommandLine (Relay file turns workers) (codes "relay" ∷ file ∷ words)
-line_at file turns workers words w walks faults ends file_is turns_are workers_are =
-    let rows = rows_at_end relay_usage (file ∷ words) w refl refl walks in (
+line_at file turns workers words w steps ends file_is turns_are workers_are =
+    let walked = walked_by top start w (file ∷ words) steps in
+    let rows = rows_at_end relay_usage (file ∷ words) w refl refl walked.0 in (
       refl,
-      taken relay_usage (file ∷ words) w refl refl walks faults ends,
+      taken relay_usage (file ∷ words) w refl refl walked.0 walked.1 ends,
       (
         record {
           file_is = ap (first_of (codes "FILE")) rows ∙ file_is;
@@ -78,21 +79,31 @@ pub relay_line : (file : Text) → (turns workers : Option Text) → IsPlainWord
     → IsCommandLine (Relay file (turns_or_most (option_map (digits_value 10) turns)) (option_map (digits_value 10) workers))
     (codes "relay" ∷ file ∷ option_words (codes "--turns") turns ++ option_words (codes "--workers") workers)
 relay_line file None None h t w =
-    let first = file_step file (plain_word file h) in
-    line_at file _ _ [] (after_file file) first.0 (one_step top start (after_file file) file first) (end_bare file) refl refl refl
+    line_at file _ _ [] (after_file file) (after_file file, file_step file (plain_word file h), refl) (end_bare file) refl refl refl
 relay_line file (Some turns) None h t w =
-    let steps = three_steps top start (after_file file) (opened (codes "turns") (file_row file ∷ [])) (filled (codes "turns") (file_row file ∷ []) turns)
-    file (codes "--turns") turns (file_step file (plain_word file h)) (turns_step file) (turns_filled (file_row file ∷ []) turns (digits_plain turns t.0)) in
-    line_at file _ _ _ _ steps.0 steps.1 (end_turns file turns (number_passes 1 1099511627776 turns (omega arith) t)) refl (given_turns turns t) refl
+    let rows = file_row file ∷ [] in
+    line_at file _ _ _ (filled (codes "turns") rows turns)
+    (after_file file, file_step file (plain_word file h), (opened (codes "turns") rows, turns_step file, (filled (codes "turns") rows turns, turns_filled rows turns (digits_plain turns t.0), refl)))
+    (end_turns file turns (number_passes 1 1099511627776 turns (omega arith) t)) refl (given_turns turns t) refl
 relay_line file None (Some workers) h t w =
-    let steps = three_steps top start (after_file file) (opened (codes "workers") (file_row file ∷ [])) (filled (codes "workers") (file_row file ∷ []) workers)
-    file (codes "--workers") workers (file_step file (plain_word file h)) (workers_step file) (workers_filled (file_row file ∷ []) workers (digits_plain workers w.0)) in
-    line_at file _ _ _ _ steps.0 steps.1 (end_workers file workers (number_passes 0 64 workers (omega arith) w)) refl refl (given_workers workers w)
+    let rows = file_row file ∷ [] in
+    line_at file _ _ _ (filled (codes "workers") rows workers)
+    (after_file file, file_step file (plain_word file h), (opened (codes "workers") rows, workers_step file, (filled (codes "workers") rows workers, workers_filled rows workers (digits_plain workers w.0), refl)))
+    (end_workers file workers (number_passes 0 64 workers (omega arith) w)) refl refl (given_workers workers w)
 relay_line file (Some turns) (Some workers) h t w =
-    let steps = five_steps top start (after_file file) (opened (codes "turns") (file_row file ∷ [])) (filled (codes "turns") (file_row file ∷ []) turns)
-    (opened (codes "workers") (file_row file ∷ turns_row turns ∷ [])) (filled (codes "workers") (file_row file ∷ turns_row turns ∷ []) workers)
-    file (codes "--turns") turns (codes "--workers") workers
-    (file_step file (plain_word file h)) (turns_step file) (turns_filled (file_row file ∷ []) turns (digits_plain turns t.0))
-    (both_step file turns (number_passes 1 1099511627776 turns (omega arith) t))
-    (workers_filled (file_row file ∷ turns_row turns ∷ []) workers (digits_plain workers w.0)) in
-    line_at file _ _ _ _ steps.0 steps.1 (end_both file turns workers (number_passes 0 64 workers (omega arith) w)) refl (given_turns turns t) (given_workers workers w)
+    let rows = file_row file ∷ [] in
+    let both = file_row file ∷ turns_row turns ∷ [] in
+    line_at file _ _ _ (filled (codes "workers") both workers) (
+      after_file file,
+      file_step file (plain_word file h),
+      (
+        opened (codes "turns") rows,
+        turns_step file,
+        (
+          filled (codes "turns") rows turns,
+          turns_filled rows turns (digits_plain turns t.0),
+          (opened (codes "workers") both, both_step file turns (number_passes 1 1099511627776 turns (omega arith) t), (filled (codes "workers") both workers, workers_filled both workers (digits_plain workers w.0), refl)),
+        ),
+      ),
+    )
+    (end_both file turns workers (number_passes 0 64 workers (omega arith) w)) refl (given_turns turns t) (given_workers workers w)

@@ -1,8 +1,8 @@
 //! The written definitions of the commands, for `clap`. It reads no word.
 
-ghost use Rattle.std.specs.Prelude.{◌≡◌, ◌≤◌, [], codes, false, true, Some, None, pos, IfOk};
-ghost use Rattle.clap.specs.{Words.{IsParsedFrom, IsPlainArg, app_of, args_of, found_of, groups_of, rule_of}, Built.{TakesValue}, declared.{builder.{command.Command.TheViews.{out-Command as fields_of}, value_parser.ValueParser.TheVariants.{Signed}}, parser.matches.ArgMatches.{ArgMatches as MatchesValue}}};
-ghost use Rattle.amt_words.specs.{Given.{HasNumber, HasNumberIfAny, HasWord}, Usage.{bare_usage, gateway_usage, load_usage, number_rule, option_rule, relay_usage, replay_head, replay_usage, word_rule}};
+ghost use Rattle.std.specs.Prelude.{◌≡◌, [], codes, false, true, IfOk};
+ghost use Rattle.clap.specs.{Words.{IsParsedFrom, IsPlainArg, app_of, args_of, found_of, groups_of, rule_of}, Built.{TakesValue}, declared.{builder.command.Command.TheViews.{out-Command as fields_of}, parser.matches.ArgMatches.{ArgMatches as MatchesValue}}};
+ghost use Rattle.amt_words.specs.{Given.{HasNumber, HasNumberIfAny, HasWord}, Usage.{bare_usage, gateway_usage, load_usage, number_rule, option_rule, relay_usage, replay_usage, word_rule}};
 
 use clap::builder::ValueParser;
 use clap::{Arg, ArgAction};

@@ -1,6 +1,6 @@
 //! `load SEED N`. It knows nothing of a load.
 
-ghost use Rattle.std.specs.Prelude.{◌≡◌, ◌≤◌, ◌<◌, ◌^◌, ℕ, Some, codes, map, string_bytes, option_map, IfOk, IsErrOf};
+ghost use Rattle.std.specs.Prelude.{◌≡◌, ◌≤◌, ◌<◌, ◌^◌, ℕ, Some, map, string_bytes, option_map, IfOk, IsErrOf};
 ghost use Rattle.clap.specs.Words.{found_of, one_text};
 ghost use Rattle.amt_words.specs.{Given.{HasNumber, HasSomeNumber}, Line.{GivesLoad, IsLoadCount, number_of}, Usage.{Takes, load_usage}};
 
