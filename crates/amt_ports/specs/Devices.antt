@@ -1,6 +1,6 @@
 -- What is seen of the devices of a run, before a call and after it.
 use Rattle.std.specs.Prelude.{◌≡◌, ◌≤◌, ℕ, max, List, [], ◌∷◌, Option}
-use Rattle.amt_ports.specs.{Sends.{TriedSend}, Told.{Answers}, declared.{feed.FeedAnswer.{FeedAnswer}, link.LinkAnswer.{LinkAnswer}}}
+use Rattle.amt_ports.specs.{Sends.{TriedSend}, Told.{Answers}, declared.{feed.{Feed.{Ghosts as FeedTells}, FeedAnswer.{FeedAnswer}}, link.{Link.{Ghosts as LinkTells}, LinkAnswer.{LinkAnswer}}, out_link.OutLink.{Ghosts as OutTells}, words.Words.{Ghosts as WordsTell}}}
 
 -- of a link: the answers to come and the tried sends, where it tells them, and how often it failed
 pub record LinkSeen : Type 0 where
@@ -13,6 +13,9 @@ abbrev pub link_seen : Option (List LinkAnswer) → Option (List TriedSend) → 
 link_seen coming tried receive_faults send_faults =
     record { coming = coming; tried = tried; receive_faults = receive_faults; send_faults = send_faults }
 
+abbrev pub link_at : {L : Type 0} → LinkTells L → L → LinkSeen
+link_at told link = link_seen (told.coming link) (told.tried link) (told.receive_faults link) (told.send_faults link)
+
 -- of a feed
 pub record FeedSeen : Type 0 where
   pub coming : Option (List FeedAnswer)
@@ -20,6 +23,9 @@ pub record FeedSeen : Type 0 where
 
 abbrev pub feed_seen : Option (List FeedAnswer) → ℕ → FeedSeen
 feed_seen coming faults = record { coming = coming; faults = faults }
+
+abbrev pub feed_at : {F : Type 0} → FeedTells F → F → FeedSeen
+feed_at told feed = feed_seen (told.coming feed) (told.faults feed)
 
 -- of a source of words: those that it gave
 pub record WordsSeen : Type 0 where
@@ -29,6 +35,9 @@ pub record WordsSeen : Type 0 where
 abbrev pub words_seen : Option (List ℕ) → ℕ → WordsSeen
 words_seen given faults = record { given = given; faults = faults }
 
+abbrev pub words_at : {W : Type 0} → WordsTell W → W → WordsSeen
+words_at told words = words_seen (told.given words) (told.faults words)
+
 -- of an out
 pub record OutSeen : Type 0 where
   pub tried : Option (List TriedSend)
@@ -36,6 +45,9 @@ pub record OutSeen : Type 0 where
 
 abbrev pub out_seen : Option (List TriedSend) → ℕ → OutSeen
 out_seen tried faults = record { tried = tried; faults = faults }
+
+abbrev pub out_at : {O : Type 0} → OutTells O → O → OutSeen
+out_at told out = out_seen (told.tried out) (told.faults out)
 
 -- each of these was the next answer to come, where the device tells them
 abbrev pub AnswersAll : {X : Type 0} → X → Option (List X) → Option (List X) → List X → Type 0

@@ -1,5 +1,4 @@
 pub mod Lawful
-mod Askings
 mod Beginning
 mod FewSends
 mod Lines

@@ -1,8 +1,8 @@
 -- What becomes of one line of the control feed.
 use Rattle.std.{proofs.Common.{◌≡◌, Bool, true, false, List, ℕ, refl, subst, arith}, specs.Prelude.{Result}}
-use Rattle.amt_ports.specs.{Bursts.{AnswerKinds}, declared.end.End.{End}}
+use Rattle.amt_ports.specs.{Bursts.{AnswerKinds, AskedSo}, declared.end.End.{End}}
 use Rattle.gateway_machine.specs.{Settings.{family_of}, declared.event.GatewayEvent.{GatewayEvent}}
-use Rattle.gateway_serving.{specs.{Askings.{AskedSo}, Servers.{Setup, family_in}, Stages.{ReadsLine}, Traces.{AtWork, WorkDoes, World, by_control, nothing, offering}, Turns.{Called, ControlAnswer, MayBecome, Starved}}, proofs.Traces.{Does-at, Does-then}}
+use Rattle.gateway_serving.{specs.{Servers.{Setup, family_in}, Stages.{ReadsLine}, Traces.{AtWork, WorkDoes, World, by_control, nothing, offering}, Turns.{Called, ControlAnswer, MayBecome, Starved}}, proofs.Traces.{Does-at, Does-then}}
 
 -- it makes a socket call, which memory took, or refused
 pub line_called : {before counted after : AtWork} (bytes : List ℕ) (event : GatewayEvent) (starved : Bool) → MayBecome (family_in before.server) bytes (Called event)

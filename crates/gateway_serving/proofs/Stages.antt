@@ -1,10 +1,10 @@
 -- What the stages of a turn come to together.
 use Rattle.std.{proofs.{Common.{◌≡◌, ℕ, ◌+◌, ◌*◌, ◌≤◌, max, true, List, [], ◌∷◌, ◌++◌, length, ⊎_elim, Result, Ok, Err, Option, refl, sym, ap, subst, ◌∙◌, append_assoc, append-nil, arith}, lemmas.List.{Elements.{All-cons, All-nil}, Sums.{sum_by-cons}}}, specs.Prelude.{IsErrOf, Some, filter_map}}
-use Rattle.amt_ports.{specs.{declared.{link.LinkAnswer.{LinkAnswer}, end.End.{End, TheVariants.{Closed, LinkFault, FeedFault, WordsFault}}}, Answers.{Taken, unless_starved}, Bursts.{IsBegun, IsClosed}, Devices.{FeedSeen, LinkSeen, OutSeen, WordsSeen}, Told.{Appends}}, proofs.EndCauses.{not_cause, same_cause}}
+use Rattle.amt_ports.{specs.{declared.{link.LinkAnswer.{LinkAnswer}, end.End.{End, TheVariants.{Closed, LinkFault, FeedFault, WordsFault}}}, Answers.{Taken, unless_starved}, Bursts.{IsBegun, IsClosed, AreAsked}, Devices.{FeedSeen, LinkSeen, OutSeen, WordsSeen}, Told.{Appends}}, proofs.{EndCauses.{not_cause, same_cause}, Bursts.{few_asked, no_other}}}
 use Rattle.gateway_machine.specs.{Outcomes.{IsAtRest}, Runs.{answer_after}, Settings.{family_of}, declared.{event.GatewayEvent.{GatewayEvent, TheVariants.{Moment, Nonce}}, outcome.GatewayOutcome.{GatewayOutcome}}}
 use Rattle.group_records.specs.declared.family.Family.{Family}
-use Rattle.gateway_serving.specs.{Askings.{AreAsked}, Counting.{Tallies, bad_lines_taken, datagrams_heard, lines_taken, starved_in}, Events.{moments_in, nonce_of}, Runs.{IsCut, of_control, of_link}, Servers.{Setup, counts_in, events_in, family_in, latest_in, setup_in, tally_in}, Stages.{BeginsBy, IsTurnBy, OffersSo, PassesMoment, TurnsSo}, Starving.{SendsAt}}
-use Rattle.gateway_serving.{specs.{Traces.{AtWork, Does, HearsSo, ReadsSo, WorkDoes, World, at_work, beginning, hearing, in_turns, reading, taking, world}, Turns.{ControlAnswer, HasBegun, HasHeard, Turn, from_control, from_link}, declared.server.Server.{Server}}, proofs.{Askings.{few_asked, no_other}, Starving.{SendsAt-same}, Traces.{Does-at, Does-none, Does-then, IsAlike, alone, drew, none_heard, server_does}}}
+use Rattle.gateway_serving.specs.{Counting.{Tallies, bad_lines_taken, datagrams_heard, lines_taken, starved_in}, Events.{moments_in, nonce_of}, Runs.{IsCut, of_control, of_link}, Servers.{Setup, counts_in, events_in, family_in, latest_in, setup_in, tally_in}, Stages.{BeginsBy, IsTurnBy, OffersSo, PassesMoment, TurnsSo}, Starving.{SendsAt}}
+use Rattle.gateway_serving.{specs.{Traces.{AtWork, Does, HearsSo, ReadsSo, WorkDoes, World, at_work, beginning, hearing, in_turns, reading, taking, world}, Turns.{ControlAnswer, HasBegun, HasHeard, Turn, from_control, from_link}, declared.server.Server.{Server}}, proofs.{Starving.{SendsAt-same}, Traces.{Does-at, Does-none, Does-then, IsAlike, alone, drew, none_heard, server_does}}}
 
 -- a success has no cause
 pub no_error : (cause : End) → IsErrOf {T = Unit {0}} (Ok tt) cause → ⊥

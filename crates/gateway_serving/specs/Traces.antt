@@ -1,9 +1,9 @@
 -- What devices answer in a stage of a turn and what happens by that, and what it does to all that turns change.
 use Rattle.std.specs.Prelude.{◌≡◌, ℕ, ◌+◌, ◌*◌, ◌≤◌, ◌||◌, Bool, true, false, List, [], ◌∷◌, ◌++◌, count_by, length, map, sum_by, filter_map, Some, Option, Result}
-use Rattle.amt_ports.specs.{declared.{feed.FeedAnswer.{FeedAnswer, TheVariants.{Closed as FeedClosed}}, link.LinkAnswer.{LinkAnswer, TheVariants.{Closed as LinkClosed}}, end.End.{End, TheVariants.{LinkFault, FeedFault}}}, Answers.{Taken, unless_starved}, Bursts.{AnswerKinds}, Devices.{AnswersAll, FeedSeen, LinkSeen, OutSeen, WaitsBriefly, WordsSeen}, Told.{AppendsAll}}
+use Rattle.amt_ports.specs.{declared.{feed.FeedAnswer.{FeedAnswer, TheVariants.{Closed as FeedClosed}}, link.LinkAnswer.{LinkAnswer, TheVariants.{Closed as LinkClosed}}, end.End.{End, TheVariants.{LinkFault, FeedFault}}}, Answers.{Taken, unless_starved}, Bursts.{AnswerKinds, AskedSo, Asking}, Devices.{AnswersAll, FeedSeen, LinkSeen, OutSeen, WaitsBriefly, WordsSeen}, Told.{AppendsAll}}
 use Rattle.gateway_machine.specs.declared.event.GatewayEvent.{GatewayEvent}
 use Rattle.group_records.specs.declared.family.Family.{Family}
-use Rattle.gateway_serving.specs.{Askings.{AskedSo, Asking}, Counting.{Tallies, bad_lines_taken, datagrams_heard, is_bad, is_datagram, is_line, is_starved_line, lines_taken, one_if, starved_in}, Events.{calls_in, datagrams_in, events_from, moments_in, nonces_in}, Runs.{control_answers, link_answers, moments_given, words_drawn}}
+use Rattle.gateway_serving.specs.{Counting.{Tallies, bad_lines_taken, datagrams_heard, is_bad, is_datagram, is_line, is_starved_line, lines_taken, one_if, starved_in}, Events.{calls_in, datagrams_in, events_from, moments_in, nonces_in}, Runs.{control_answers, link_answers, moments_given, words_drawn}}
 use Rattle.gateway_serving.specs.{Servers.{counts_in, events_in, family_in, latest_in, setup_in, tally_in, wanted_packets, wanted_sends}, Taking.{HasSent}, Turns.{ControlAnswer, Turn, from_control, from_link, latest_of}, declared.server.Server.{Server}}
 
 -- The events; the answers of the devices; whether the link was asked; what is counted of the answers; and at most so

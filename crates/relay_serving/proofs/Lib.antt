@@ -1,6 +1,5 @@
 pub mod AnswerSends
 pub mod Answering
-pub mod Askings
 pub mod Counting
 pub mod Drawing
 pub mod Ending

@@ -1,10 +1,10 @@
 -- What the stages of a turn come to together.
 use Rattle.std.{proofs.{Common.{◌≡◌, ℕ, ◌+◌, ◌≤◌, ◌<◌, max, cond, true≢false, List, [], ◌∷◌, length, map, ⊎_elim, Result, Ok, Err, Option, Some, refl, sym, ap, subst, ◌∙◌, append_assoc, append-nil, arith}, lemmas.List.{map-append, Sums.{sum_by-cons}}}, specs.Prelude.{IsErrOf}}
-use Rattle.amt_ports.{specs.{declared.{feed.FeedAnswer.{FeedAnswer}, link.LinkAnswer.{LinkAnswer}, out_link.OutLink.{Ghosts}, end.End.{End, TheVariants.{Closed, LinkFault, FeedFault, WordsFault}}}, Answers.{Taken}, Bursts.{IsBegun, IsClosed}, Devices.{FeedSeen, LinkSeen, WordsSeen}, EndCauses.{IsCausedBy}, Told.{Appends, AppendsAll}}, proofs.EndCauses.{not_cause}}
+use Rattle.amt_ports.{specs.{declared.{feed.FeedAnswer.{FeedAnswer}, link.LinkAnswer.{LinkAnswer}, out_link.OutLink.{Ghosts}, end.End.{End, TheVariants.{Closed, LinkFault, FeedFault, WordsFault}}}, Answers.{Taken}, Bursts.{IsBegun, IsClosed, AreAsked}, Devices.{FeedSeen, LinkSeen, WordsSeen}, EndCauses.{IsCausedBy}, Told.{Appends, AppendsAll}}, proofs.{EndCauses.{not_cause}, Bursts.{few_asked, no_other}}}
 use Rattle.response_mac.specs.declared.secret.Secret.{Secret}
 use Rattle.relay_machine.specs.declared.event.Event.TheVariants.{Rotate}
-use Rattle.relay_serving.specs.{Askings.{AreAsked}, Counting.{is_late, starved_in}, Events.{moment_event, rotation, secret_by}, Happenings.{Took}, Runs.{IsCut, of_feed, of_link}, Servers.{counts_in, tally_in}, Stages.{BeginsBy, IsBegunBy, PassesMoment, at_words}, Turning.{IsTurnBy, TurnsSo}}
-use Rattle.relay_serving.{specs.{Traces.{Does, FeedsSo, HearsSo, PublishesSo, ServerDoes, World, beginning, feeding, hearing, in_turns, nothing, publishing_so, world}, Turns.{Ahead, HasBegun, HasHeard, Progress, Publishing, Turn, from_feed, from_link, is_due, renewed_after}, declared.server.Server.{Server}}, proofs.{Askings.{few_asked, no_other}, OwedLate.{owed_since}, Traces.{Does-at, Does-none, Does-then, alone, drew}}}
+use Rattle.relay_serving.specs.{Counting.{is_late, starved_in}, Events.{moment_event, rotation, secret_by}, Happenings.{Took}, Runs.{IsCut, of_feed, of_link}, Servers.{counts_in, tally_in}, Stages.{BeginsBy, IsBegunBy, PassesMoment, at_words}, Turning.{IsTurnBy, TurnsSo}}
+use Rattle.relay_serving.{specs.{Traces.{Does, FeedsSo, HearsSo, PublishesSo, ServerDoes, World, beginning, feeding, hearing, in_turns, nothing, publishing_so, world}, Turns.{Ahead, HasBegun, HasHeard, Progress, Publishing, Turn, from_feed, from_link, is_due, renewed_after}, declared.server.Server.{Server}}, proofs.{OwedLate.{owed_since}, Traces.{Does-at, Does-none, Does-then, alone, drew}}}
 
 pub rotation-few : (drawn : List ℕ) → length drawn < 4 → rotation drawn ≡ []
 rotation-few [] few = refl

@@ -1,10 +1,10 @@
 -- What traces come to: one after the other, of the relay alone, of its link, and of devices.
 use Rattle.std.{proofs.{Common.{◌≡◌, ℕ, ◌+◌, ◌≤◌, cond, false, List, [], ◌++◌, length, map, refl, sym, ap, subst, ◌∙◌, append_assoc, append-nil, length-append, arith}, lemmas.List.{map-append, Elements.{filter_map-append}, Sums.{sum_by-append}}}, specs.{Prelude.{Option, None}, List.{filter_map}}}
-use Rattle.amt_ports.{specs.{declared.{feed.FeedAnswer.{FeedAnswer, TheVariants.{Closed as FeedClosed}}, link.LinkAnswer.{LinkAnswer, TheVariants.{Closed as LinkClosed}}, out_link.OutLink.{Ghosts}}, Answers.{Taken, unless_starved}, Devices.{AnswersAll, FeedSeen, LinkSeen, WaitsBriefly, WordsSeen, feed_seen, link_seen, words_seen}, Told.{AppendsAll}}, proofs.{Lists.{AnswersAll-then}, SoFar.{GoesOn}, Told.{AppendsAll-none, AppendsAll-then}, Trying.{HasTried-none}, Waits.{no_waits, waits_then}}}
+use Rattle.amt_ports.{specs.{declared.{feed.FeedAnswer.{FeedAnswer, TheVariants.{Closed as FeedClosed}}, link.LinkAnswer.{LinkAnswer, TheVariants.{Closed as LinkClosed}}, out_link.OutLink.{Ghosts}}, Answers.{Taken, unless_starved}, Devices.{AnswersAll, FeedSeen, LinkSeen, WaitsBriefly, WordsSeen, feed_seen, link_seen, words_seen}, Told.{AppendsAll}}, proofs.{Lists.{AnswersAll-then}, SoFar.{GoesOn, SoFar}, Told.{AppendsAll-none, AppendsAll-then}, Trying.{HasTried-none}, Waits.{no_waits, waits_then}}}
 use Rattle.amt_values.specs.declared.peer.Peer.{Peer}
 use Rattle.relay_machine.specs.declared.{event.Event.{Event}, outcome.Outcome.{Outcome}}
 use Rattle.relay_serving.specs.{Counting.{HasAnswered, HasRefused, is_packet, with_outcome}, Devices.{Devices, devices_seen}, Events.{datagram_of, packet_of}, Happenings.{Happening, Took, events_among}, Sending.{answers_after}, Servers.{Happens, IsAsBefore, IsSameRun, counts_in, events_in, first_in, happenings_in, settings_in}}
-use Rattle.relay_serving.{specs.{Traces.{Does, LinkDoes, ServerDoes, Trace, World, and_then, at_feed, at_link, by_feed, by_link, nothing, world}, declared.{counts.Counts.{Counts}, server.Server.{Server}}}, proofs.{Askings.{SoFar}, Answering.{HasAnswered-none, HasAnswered-then, answers_after-append, no_more, sum_then}, Happenings.{events_among-append}}}
+use Rattle.relay_serving.{specs.{Traces.{Does, LinkDoes, ServerDoes, Trace, World, and_then, at_feed, at_link, by_feed, by_link, nothing, world}, declared.{counts.Counts.{Counts}, server.Server.{Server}}}, proofs.{Answering.{HasAnswered-none, HasAnswered-then, answers_after-append, no_more, sum_then}, Happenings.{events_among-append}}}
 
 -- what is counted of a call that sends nothing
 pub record Adds (before after : Counts) (starved late packets : ℕ) : Type 0 where

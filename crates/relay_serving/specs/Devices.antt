@@ -1,16 +1,6 @@
 -- What is seen of the devices of a serving relay, before a call and after it.
 use Rattle.std.specs.Prelude.{ℕ, List, map, Option}
-use Rattle.amt_ports.specs.{Sends.{TriedSend}, Devices.{FeedSeen, LinkSeen, OutSeen, WordsSeen, feed_seen, link_seen, out_seen, words_seen}, declared.{feed.Feed.{Ghosts as FeedTells}, link.Link.{Ghosts as LinkTells}, words.Words.{Ghosts as WordsTell}}}
-
--- of a link, a feed and a source of words
-abbrev pub link_at : {L : Type 0} → LinkTells L → L → LinkSeen
-link_at told link = link_seen (told.coming link) (told.tried link) (told.receive_faults link) (told.send_faults link)
-
-abbrev pub feed_at : {F : Type 0} → FeedTells F → F → FeedSeen
-feed_at told feed = feed_seen (told.coming feed) (told.faults feed)
-
-abbrev pub words_at : {W : Type 0} → WordsTell W → W → WordsSeen
-words_at told words = words_seen (told.given words) (told.faults words)
+use Rattle.amt_ports.specs.{Sends.{TriedSend}, Devices.{FeedSeen, LinkSeen, OutSeen, WordsSeen, out_seen}}
 
 -- of outs, in order, by what they tell of their tried sends and how often they failed
 abbrev pub outs_seen : {O : Type 0} → (O → Option (List TriedSend)) → (O → ℕ) → List O → List OutSeen

@@ -1,4 +1,3 @@
-pub mod Askings
 pub mod Counting
 pub mod Courses
 pub mod Devices

@@ -1,8 +1,8 @@
 -- What devices answer in a stage of a turn and what happens by that, and what it does to all that turns change.
 use Rattle.std.specs.Prelude.{◌≡◌, ◌≢◌, ℕ, ◌+◌, ◌*◌, ◌≤◌, max, Bool, List, [], ◌∷◌, ◌++◌, count_by, length, map, sum_by, Result}
-use Rattle.amt_ports.specs.{declared.{feed.FeedAnswer.{FeedAnswer, TheVariants.{Closed as FeedClosed}}, link.LinkAnswer.{LinkAnswer, TheVariants.{Closed as LinkClosed}}, out_link.OutLink.{Ghosts}, end.End.{End, TheVariants.{LinkFault, FeedFault}}}, Answers.{Taken}, Bursts.{AnswerKinds}, Devices.{AnswersAll, FeedSeen, LinkSeen, WaitsBriefly}, Told.{AppendsAll}}
+use Rattle.amt_ports.specs.{declared.{feed.FeedAnswer.{FeedAnswer, TheVariants.{Closed as FeedClosed}}, link.LinkAnswer.{LinkAnswer, TheVariants.{Closed as LinkClosed}}, out_link.OutLink.{Ghosts}, end.End.{End, TheVariants.{LinkFault, FeedFault}}}, Answers.{Taken}, Bursts.{AnswerKinds, AskedSo, Asking}, Devices.{AnswersAll, FeedSeen, LinkSeen, WaitsBriefly}, Told.{AppendsAll}}
 use Rattle.relay_machine.specs.declared.event.Event.{Event}
-use Rattle.relay_serving.specs.{Askings.{AskedSo, Asking}, Counting.{HasAnswered, HasRefused, is_late, one_if, starved_in}, Devices.{Devices}, Events.{datagrams_in, happenings_from, moment_event, packets_in, publishing_in, rotation}, Happenings.{Happening, Took, events_among}, Runs.{feed_answers, link_answers, moments_given, words_drawn}}
+use Rattle.relay_serving.specs.{Counting.{HasAnswered, HasRefused, is_late, one_if, starved_in}, Devices.{Devices}, Events.{datagrams_in, happenings_from, moment_event, packets_in, publishing_in, rotation}, Happenings.{Happening, Took, events_among}, Runs.{feed_answers, link_answers, moments_given, words_drawn}}
 use Rattle.relay_serving.specs.{Sending.{answers_after}, Servers.{Happens, counts_in, events_in, first_in, owing_in, settings_in, tally_in}, Turns.{Publishing, Ahead, Refused, Turn, from_feed, from_link, is_refused}, declared.{server.Server.{Server}}}
 
 -- What happened; the answers of the devices; how many events, and publishings, memory refused; and at most so much is

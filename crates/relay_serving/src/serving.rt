@@ -3,8 +3,8 @@
 ghost use Rattle.std.specs.Prelude.{◌≡◌, ◌≤◌, ◌<◌, ◌+◌, ◌^◌, [], IfOk, length, max};
 ghost use Rattle.published_table.specs.Views.{room_of, views_of};
 ghost use Rattle.relay_machine.specs.Settings.{AreLawfulSettings};
-ghost use Rattle.amt_ports.specs.Devices.{WaitsBriefly};
-ghost use Rattle.relay_serving.specs.{Devices.{devices_seen, feed_at, link_at, outs_seen, words_at}, Plans.{IsLawfulPlan}, Reports.{report_of, unused_report}, Serving.{Serves}};
+ghost use Rattle.amt_ports.specs.Devices.{WaitsBriefly, feed_at, link_at, words_at};
+ghost use Rattle.relay_serving.specs.{Devices.{devices_seen, outs_seen}, Plans.{IsLawfulPlan}, Reports.{report_of, unused_report}, Serving.{Serves}};
 
 use crate::plan::{ServePlan, ServeReport, Served};
 use crate::secret::draw_secret;

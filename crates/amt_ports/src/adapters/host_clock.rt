@@ -1,6 +1,6 @@
 //! The machine's clock.
 
-ghost use Rattle.std.specs.Prelude.{◌≡◌, ◌<◌, ◌≤◌, None};
+ghost use Rattle.std.specs.Prelude.{◌≡◌, ◌<◌, ◌≤◌, ◌+◌, None};
 ghost use Rattle.amt_ports.specs.RealDevices.{readings_failed};
 
 use crate::Clock;
@@ -20,7 +20,10 @@ pub struct HostClock<C> {
 }
 
 impl<C: time::Clock + Drop> HostClock<C> {
-    pub fn new(clock: C) -> Self {
+    /// The clock is read once here.
+    pub fn new(clock: C) -> Self
+        ensures faults { readings_failed result ≤ 1 }
+    {
         let mut made = HostClock {
             clock,
             start: None,
@@ -59,6 +62,7 @@ impl<C: time::Clock + Drop> Clock for HostClock<C> {
 
         ensures last { self.new.last ≡ result }
         ensures forward { self.old.last ≤ result }
+        ensures once { readings_failed self.new ≤ readings_failed self.old + 1 }
         ensures unread { readings_failed self.old < readings_failed self.new → result ≡ self.old.last }
     {
         match self.read() {

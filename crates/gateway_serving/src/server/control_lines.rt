@@ -1,6 +1,7 @@
 //! How a running gateway takes socket calls from its control feed.
 ghost use Rattle.std.specs.Prelude.{◌≤◌, ◌<◌, ◌+◌, ◌^◌, length};
-ghost use Rattle.gateway_serving.specs.{Askings.{AreAsked, IsNext}, Devices.{feed_at, link_at, out_at}, Servers.{tally_in}, Stages.{ReadsLine}, Traces.{ReadsSo, at_work}};
+ghost use Rattle.amt_ports.specs.{Bursts.{AreAsked, IsNext}, Devices.{feed_at, link_at, out_at}};
+ghost use Rattle.gateway_serving.specs.{Servers.{tally_in}, Stages.{ReadsLine}, Traces.{ReadsSo, at_work}};
 
 use super::Server;
 use amt_ports::{Asked, BURST, End, Feed, FeedGot, Link, OutLink, WAIT_MS};

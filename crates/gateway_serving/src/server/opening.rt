@@ -1,7 +1,8 @@
 //! How a running gateway begins: its machine, its first moment, and the joins of its settings.
 ghost use Rattle.std.specs.Prelude.{◌≡◌, ◌≤◌, ◌<◌, ◌+◌, ◌^◌, [], ◌∷◌, All, IfOk, OnErr, OnOk, length, map};
 ghost use Rattle.gateway_machine.specs.Events.{IsEventOf};
-ghost use Rattle.gateway_serving.specs.{Devices.{link_at, out_at}, Counting.{no_counts}, Servers.{IsFresh, counts_in, events_in, latest_in, settings_in, tally_in}, Settings.{IsLawfulConfig, opening_of}, Stages.{BeginsWith, OpensSo}, Traces.{WorkDoes, at_work, nothing, taking}};
+ghost use Rattle.amt_ports.specs.Devices.{link_at, out_at};
+ghost use Rattle.gateway_serving.specs.{Counting.{no_counts}, Servers.{IsFresh, counts_in, events_in, latest_in, settings_in, tally_in}, Settings.{IsLawfulConfig, opening_of}, Stages.{BeginsWith, OpensSo}, Traces.{WorkDoes, at_work, nothing, taking}};
 
 use super::Server;
 use crate::counts::Counts;

@@ -1,8 +1,8 @@
 //! How a running gateway takes an event, sends what the machine says, and hands on a packet.
 ghost use Rattle.std.specs.Prelude.{◌≡◌, ◌≤◌, ◌<◌, ◌+◌, ◌^◌, [], ◌∷◌, length, map, IsOk, OnErr, OnOk};
-ghost use Rattle.amt_ports.specs.Devices.{LinkSeen, OutSeen};
+ghost use Rattle.amt_ports.specs.Devices.{LinkSeen, OutSeen, link_at, out_at};
 ghost use Rattle.gateway_machine.specs.{Events.{IsDraw, IsEventOf}, Outcomes.{NeedsNoMemory}, Runs.{answer_after}};
-ghost use Rattle.gateway_serving.specs.{Devices.{link_at, out_at}, Sending.{delivery_to, to_peer}, Servers.{events_in, settings_in, setup_in, tally_in}, Stages.{OffersSo}, Taking.{HasSent}, Traces.{WorkDoes, at_work, nothing, taking}};
+ghost use Rattle.gateway_serving.specs.{Sending.{delivery_to, to_peer}, Servers.{events_in, settings_in, setup_in, tally_in}, Stages.{OffersSo}, Taking.{HasSent}, Traces.{WorkDoes, at_work, nothing, taking}};
 
 use super::Server;
 use crate::counts::Counts;

@@ -1,7 +1,8 @@
 //! One turn of a running gateway, and all of a run.
 ghost use Rattle.std.specs.Prelude.{◌≡◌, ◌≤◌, ◌<◌, ◌+◌, ◌^◌, [], ◌∷◌, length};
 ghost use Rattle.gateway_machine.specs.declared.event.GatewayEvent.TheVariants.{Nonce as NonceEvent};
-ghost use Rattle.gateway_serving.specs.{Devices.{feed_at, link_at, out_at, words_at}, Events.{nonce_of}, Servers.{tally_in}, Settings.{AreTurns}, Stages.{BeginsBy, PassesMoment, RunsSo, TurnsSo}, Traces.{WorkDoes, at_work, taking, world}};
+ghost use Rattle.amt_ports.specs.Devices.{feed_at, link_at, out_at, words_at};
+ghost use Rattle.gateway_serving.specs.{Events.{nonce_of}, Servers.{tally_in}, Settings.{AreTurns}, Stages.{BeginsBy, PassesMoment, RunsSo, TurnsSo}, Traces.{WorkDoes, at_work, taking, world}};
 
 use super::Server;
 use amt_ports::{Clock, End, Feed, Link, OutLink, Words};

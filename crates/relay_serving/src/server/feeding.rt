@@ -1,7 +1,8 @@
 //! How a running relay takes packets from its feed.
 ghost use Rattle.std.specs.Prelude.{◌≤◌, ◌<◌, ◌+◌, ◌^◌, length, OnOk, OnErr};
 ghost use Rattle.relay_machine.specs.declared.event.Event.TheVariants.{Packet};
-ghost use Rattle.relay_serving.specs.{Askings.{AreAsked, IsNext}, Devices.{feed_at}, Servers.{counts_in, tally_in}, Traces.{FeedsSo, ServerDoes, nothing, taking}};
+ghost use Rattle.amt_ports.specs.{Bursts.{AreAsked, IsNext}, Devices.{feed_at}};
+ghost use Rattle.relay_serving.specs.{Servers.{counts_in, tally_in}, Traces.{FeedsSo, ServerDoes, nothing, taking}};
 
 use super::Server;
 use amt_ports::{Asked, BURST, End, Feed, FeedGot, OutLink, WAIT_MS};

@@ -2,7 +2,8 @@
 ghost use Rattle.std.specs.Prelude.{◌≡◌, ◌≤◌, ◌<◌, ◌+◌, ◌^◌, length, map, OnOk, OnErr};
 ghost use Rattle.relay_machine.specs.declared.event.Event.TheVariants.{Datagram};
 ghost use Rattle.replication_workers.specs.Replication.{to_peer};
-ghost use Rattle.relay_serving.specs.{Askings.{AreAsked, IsNext}, Counting.{CountsAlike, HasAnswered}, Devices.{link_at}, Servers.{tally_in}, Traces.{HearsSo, LinkDoes, nothing, taking}};
+ghost use Rattle.amt_ports.specs.{Bursts.{AreAsked, IsNext}, Devices.{link_at}};
+ghost use Rattle.relay_serving.specs.{Counting.{CountsAlike, HasAnswered}, Servers.{tally_in}, Traces.{HearsSo, LinkDoes, nothing, taking}};
 
 use super::Server;
 use crate::counts::Counts;

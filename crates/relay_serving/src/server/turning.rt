@@ -1,6 +1,7 @@
 //! One turn of a running relay, and all of a run.
 ghost use Rattle.std.specs.Prelude.{◌≡◌, ◌≤◌, ◌<◌, ◌+◌, ◌^◌, [], length, None};
-ghost use Rattle.relay_serving.specs.{Counting.{no_counts}, Devices.{devices_seen, feed_at, link_at, words_at}, Plans.{IsLawfulPlan}, Servers.{counts_in, happenings_in, tally_in}, Stages.{BeginsBy, progress_in}, Traces.{world}, Turning.{RunsSo, TurnsSo}};
+ghost use Rattle.amt_ports.specs.Devices.{feed_at, link_at, words_at};
+ghost use Rattle.relay_serving.specs.{Counting.{no_counts}, Devices.{devices_seen}, Plans.{IsLawfulPlan}, Servers.{counts_in, happenings_in, tally_in}, Stages.{BeginsBy, progress_in}, Traces.{world}, Turning.{RunsSo, TurnsSo}};
 
 use super::Server;
 use crate::plan::ServePlan;

@@ -1,5 +1,6 @@
 use Rattle.std.proofs.{Common.{◌+◌, ◌*◌, ◌≤◌, length, arith}, lemmas.Result.{err_from_is_err_and}}
-use Rattle.gateway_serving.{specs.{Servers.{tally_in}, Traces.{by_link}}, proofs.{Askings.{all_asked, none_asked, one_more, then_ends, then_nothing}, Traces.{alone, hears_on, none_heard}}}
+use Rattle.amt_ports.proofs.SoFar.{all_asked, none_asked, one_more, then_ends, then_nothing}
+use Rattle.gateway_serving.{specs.{Servers.{tally_in}, Traces.{by_link}}, proofs.Traces.{alone, hears_on, none_heard}}
 use Rattle.gateway_serving.proofs.server.Server.hear.Goals as goal
 
 pub loop-init : goal.loop-init

@@ -1,6 +1,7 @@
 -- Each asking so far found a datagram.
 use Rattle.std.proofs.Common.{length}
-use Rattle.gateway_serving.{specs.{Devices.{link_at, out_at}, Traces.{World, at_work, by_link}}, proofs.Askings.{SoFar}}
+use Rattle.amt_ports.{specs.Devices.{link_at, out_at}, proofs.SoFar.{SoFar}}
+use Rattle.gateway_serving.specs.Traces.{World, at_work, by_link}
 use Rattle.gateway_serving.proofs.server.Server.hear.Given as goal
 
 abbrev pub invariant-loop : goal.invariant-loop

@@ -1,5 +1,6 @@
 use Rattle.std.proofs.{Common.{◌+◌, ◌*◌, ◌≤◌, length, arith}, lemmas.Result.{err_from_is_err_and}}
-use Rattle.gateway_serving.{specs.{Servers.{family_in, tally_in}, Traces.{by_control}}, proofs.{Askings.{all_asked, none_asked, one_more, then_ends, then_nothing}, Lines.{same_family}, Traces.{Does-none, alone, reads_on}}}
+use Rattle.amt_ports.proofs.SoFar.{all_asked, none_asked, one_more, then_ends, then_nothing}
+use Rattle.gateway_serving.{specs.{Servers.{family_in, tally_in}, Traces.{by_control}}, proofs.{Lines.{same_family}, Traces.{Does-none, alone, reads_on}}}
 use Rattle.gateway_serving.proofs.server.Server.hear_control.Goals as goal
 
 pub loop-init : goal.loop-init

@@ -1,6 +1,7 @@
 -- Each asking so far found a line.
 use Rattle.std.proofs.Common.{length}
-use Rattle.gateway_serving.{specs.{Devices.{feed_at, link_at, out_at}, Servers.{family_in}, Traces.{World, at_control, at_work, by_control}}, proofs.Askings.{SoFar}}
+use Rattle.amt_ports.{specs.Devices.{feed_at, link_at, out_at}, proofs.SoFar.{SoFar}}
+use Rattle.gateway_serving.specs.{Servers.{family_in}, Traces.{World, at_control, at_work, by_control}}
 use Rattle.gateway_serving.proofs.server.Server.hear_control.Given as goal
 
 abbrev pub invariant-loop : goal.invariant-loop

@@ -1,6 +1,6 @@
 use Rattle.std.proofs.{Common.{[], ◌∷◌, inl, inr, length, take, refl, ap, subst, arith}, lemmas.List.{length-take}}
-use Rattle.amt_ports.{specs.{Arrivals.{IsShortFeedGot, feed_answer}, Told.{Answers}, declared.feed.{FeedGot.{FeedGot}, FeedAnswer.TheVariants.{Packet, Nothing as NothingFed, Closed as FeedClosed}}}, proofs.{EndCauses.{not_cause}, Lists.{one_answer}}}
-use Rattle.gateway_serving.{specs.{Devices.{feed_at, link_at, out_at}, Traces.{at_control, at_work}, Turns.{a_line, no_line}}, proofs.Traces.{Does-at, Does-then, read_so}}
+use Rattle.amt_ports.{specs.{Arrivals.{IsShortFeedGot, feed_answer}, Told.{Answers}, declared.feed.{FeedGot.{FeedGot}, FeedAnswer.TheVariants.{Packet, Nothing as NothingFed, Closed as FeedClosed}}, Devices.{feed_at, link_at, out_at}}, proofs.{EndCauses.{not_cause}, Lists.{one_answer}}}
+use Rattle.gateway_serving.{specs.{Traces.{at_control, at_work}, Turns.{a_line, no_line}}, proofs.Traces.{Does-at, Does-then, read_so}}
 use Rattle.gateway_serving.proofs.server.Server.hear_control_next.Goals as goal
 
 pub returns-in-Ok-Packet : goal.returns-in-Ok-Packet

@@ -1,6 +1,6 @@
 use Rattle.std.proofs.{Common.{[], ◌∷◌, inl, inr, length, take, refl, ap, subst, ◌∙◌, arith}, lemmas.List.{length-take}}
-use Rattle.amt_ports.{specs.{Arrivals.{IsShortGot, link_answer}, Told.{Answers}, declared.link.{Got.{Got}, LinkAnswer.TheVariants.{Datagram as DatagramCame, Nothing as NothingCame, Closed as LinkClosed}}, Answers.{taken}}, proofs.{EndCauses.{not_cause}, Lists.{one_answer}}}
-use Rattle.gateway_serving.{specs.Devices.{link_at}, proofs.Traces.{Does-at, Does-then, heard_so}}
+use Rattle.amt_ports.{specs.{Arrivals.{IsShortGot, link_answer}, Told.{Answers}, declared.link.{Got.{Got}, LinkAnswer.TheVariants.{Datagram as DatagramCame, Nothing as NothingCame, Closed as LinkClosed}}, Answers.{taken}, Devices.{link_at}}, proofs.{EndCauses.{not_cause}, Lists.{one_answer}}}
+use Rattle.gateway_serving.proofs.Traces.{Does-at, Does-then, heard_so}
 use Rattle.gateway_serving.proofs.server.Server.hear_next.Goals as goal
 
 pub returns-in-Ok-Datagram : goal.returns-in-Ok-Datagram

@@ -1,6 +1,7 @@
 use Rattle.std.{proofs.{Common.{[], ◌∷◌, subst}, lemmas.Result.{err_from_is_err_and}}, specs.Prelude.{OnOk}}
 use Rattle.gateway_machine.specs.declared.event.GatewayEvent.{GatewayEvent}
-use Rattle.gateway_serving.{specs.{Devices.{link_at, out_at}, Traces.{WorkDoes, at_work, taking}}, proofs.Traces.{Does-none}}
+use Rattle.amt_ports.specs.Devices.{link_at, out_at}
+use Rattle.gateway_serving.{specs.Traces.{WorkDoes, at_work, taking}, proofs.Traces.{Does-none}}
 use Rattle.gateway_serving.proofs.server.Server.open_join.Goals as goal
 
 pub returns-in_err-event-clause-none : goal.returns-in_err-event-clause-none

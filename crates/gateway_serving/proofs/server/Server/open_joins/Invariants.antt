@@ -1,6 +1,7 @@
 -- The joins so far were opened.
 use Rattle.std.proofs.Common.{◌≡◌, ◌≤◌, ◌+◌, map, take}
-use Rattle.gateway_serving.specs.{Devices.{link_at, out_at}, Servers.{settings_in, tally_in}, Settings.{opening_of}, Traces.{WorkDoes, at_work, taking}}
+use Rattle.amt_ports.specs.Devices.{link_at, out_at}
+use Rattle.gateway_serving.specs.{Servers.{settings_in, tally_in}, Settings.{opening_of}, Traces.{WorkDoes, at_work, taking}}
 use Rattle.gateway_serving.proofs.server.Server.open_joins.Given as goal
 
 abbrev pub invariant-loop-join : goal.invariant-loop-join

@@ -1,6 +1,7 @@
 -- Each turn so far was whole.
 use Rattle.std.proofs.Common.{length}
-use Rattle.gateway_serving.{specs.{Devices.{feed_at, link_at, out_at, words_at}, Traces.{at_work, world}}, proofs.Running.{IsRunning}}
+use Rattle.amt_ports.specs.Devices.{feed_at, link_at, out_at, words_at}
+use Rattle.gateway_serving.{specs.Traces.{at_work, world}, proofs.Running.{IsRunning}}
 use Rattle.gateway_serving.proofs.server.Server.run.Given as goal
 
 abbrev pub invariant-loop-done : goal.invariant-loop-done

@@ -1,7 +1,8 @@
 use Rattle.std.proofs.{Common.{[], List, ℕ, map, refl, subst, ◌∙◌, arith}, lemmas.List.{take_all}}
 use Rattle.amt_values.specs.declared.peer.Peer.{Peer}
 use Rattle.gateway_machine.specs.declared.step.PeerSend.{PeerSend}
-use Rattle.gateway_serving.{specs.{Devices.{link_at}, Sending.{to_peer}, Taking.{HasSent}}, proofs.Trying.{HasSent-none, HasSent-then, few_more, keeps, sends_more, sent_one}}
+use Rattle.amt_ports.specs.Devices.{link_at}
+use Rattle.gateway_serving.{specs.{Sending.{to_peer}, Taking.{HasSent}}, proofs.Trying.{HasSent-none, HasSent-then, few_more, keeps, sends_more, sent_one}}
 use Rattle.gateway_serving.proofs.server.taking.send_all.Goals as goal
 
 pub loop-send-init : goal.loop-send-init

@@ -1,7 +1,7 @@
 -- What was tried so far is the sends so far, and nothing else was counted.
 use Rattle.std.proofs.Common.{◌≡◌, ◌≤◌, ◌+◌, [], map, take}
-use Rattle.amt_ports.specs.Devices.{OutSeen}
-use Rattle.gateway_serving.specs.{Devices.{link_at}, Sending.{to_peer}, Taking.{HasSent}}
+use Rattle.amt_ports.specs.Devices.{OutSeen, link_at}
+use Rattle.gateway_serving.specs.{Sending.{to_peer}, Taking.{HasSent}}
 use Rattle.gateway_serving.proofs.server.taking.send_all.Given as goal
 
 abbrev pub invariant-loop-send : goal.invariant-loop-send

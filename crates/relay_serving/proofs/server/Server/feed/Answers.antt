@@ -1,5 +1,6 @@
 use Rattle.std.proofs.{Common.{◌+◌, ◌≤◌, length, arith}, lemmas.Result.{err_from_is_err_and}}
-use Rattle.relay_serving.{specs.{Servers.{counts_in, tally_in}, Traces.{by_feed}}, proofs.{Askings.{all_asked, none_asked, one_more, then_ends, then_nothing}, Traces.{Does-none, alone, feeds_on}}}
+use Rattle.amt_ports.proofs.SoFar.{all_asked, none_asked, one_more, then_ends, then_nothing}
+use Rattle.relay_serving.{specs.{Servers.{counts_in, tally_in}, Traces.{by_feed}}, proofs.Traces.{Does-none, alone, feeds_on}}
 use Rattle.relay_serving.proofs.server.Server.feed.Goals as goal
 
 pub loop-init : goal.loop-init

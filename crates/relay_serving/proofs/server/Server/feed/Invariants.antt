@@ -1,6 +1,7 @@
 -- Each asking so far found a packet.
 use Rattle.std.proofs.Common.{length}
-use Rattle.relay_serving.{specs.Devices.{feed_at}, proofs.Traces.{FedSoFar}}
+use Rattle.amt_ports.specs.Devices.{feed_at}
+use Rattle.relay_serving.proofs.Traces.{FedSoFar}
 use Rattle.relay_serving.proofs.server.Server.feed.Given as goal
 
 abbrev pub invariant-loop : goal.invariant-loop

@@ -1,6 +1,6 @@
 use Rattle.std.proofs.{Common.{[], ◌∷◌, ◌≤◌, ◌+◌, inl, inr, length, take, refl, ap, subst, arith}, lemmas.List.{length-take}}
-use Rattle.amt_ports.{specs.{Arrivals.{IsShortFeedGot, feed_answer}, Told.{Answers}, declared.feed.{FeedAnswer.TheVariants.{Packet as PacketFed, Nothing as NothingFed, Closed as FeedClosed}, FeedGot.{FeedGot}}, Answers.{refused, taken}}, proofs.{EndCauses.{not_cause}, Lists.{one_answer}}}
-use Rattle.relay_serving.{specs.{Devices.{feed_at}, Servers.{tally_in}, Traces.{at_feed}}, proofs.Traces.{Does-then, alone, fed_so}}
+use Rattle.amt_ports.{specs.{Arrivals.{IsShortFeedGot, feed_answer}, Told.{Answers}, declared.feed.{FeedAnswer.TheVariants.{Packet as PacketFed, Nothing as NothingFed, Closed as FeedClosed}, FeedGot.{FeedGot}}, Answers.{refused, taken}, Devices.{feed_at}}, proofs.{EndCauses.{not_cause}, Lists.{one_answer}}}
+use Rattle.relay_serving.{specs.{Servers.{tally_in}, Traces.{at_feed}}, proofs.Traces.{Does-then, alone, fed_so}}
 use Rattle.relay_serving.proofs.server.Server.feed_next.Goals as goal
 
 pub returns-in-Ok : goal.returns-in-Ok

@@ -1,6 +1,7 @@
 -- Each asking so far found a datagram.
 use Rattle.std.proofs.Common.{length}
-use Rattle.relay_serving.{specs.Devices.{link_at}, proofs.Traces.{HeardSoFar}}
+use Rattle.amt_ports.specs.Devices.{link_at}
+use Rattle.relay_serving.proofs.Traces.{HeardSoFar}
 use Rattle.relay_serving.proofs.server.Server.hear.Given as goal
 
 abbrev pub invariant-loop : goal.invariant-loop

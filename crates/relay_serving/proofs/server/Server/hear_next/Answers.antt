@@ -1,6 +1,6 @@
 use Rattle.std.proofs.{Common.{[], ◌∷◌, ◌≤◌, ◌+◌, inl, inr, length, take, refl, ap, subst, ◌∙◌, arith}, lemmas.List.{length-take}}
-use Rattle.amt_ports.{specs.{Arrivals.{IsShortGot, link_answer}, Told.{Answers}, declared.link.{Got.{Got}, LinkAnswer.TheVariants.{Datagram as DatagramCame, Nothing as NothingCame, Closed as LinkClosed}}, Answers.{refused, taken}}, proofs.{EndCauses.{not_cause}, Lists.{one_answer}}}
-use Rattle.relay_serving.{specs.{Devices.{link_at}, Servers.{tally_in}, Traces.{at_link}}, proofs.Traces.{Does-then, alone, heard_so}}
+use Rattle.amt_ports.{specs.{Arrivals.{IsShortGot, link_answer}, Told.{Answers}, declared.link.{Got.{Got}, LinkAnswer.TheVariants.{Datagram as DatagramCame, Nothing as NothingCame, Closed as LinkClosed}}, Answers.{refused, taken}, Devices.{link_at}}, proofs.{EndCauses.{not_cause}, Lists.{one_answer}}}
+use Rattle.relay_serving.{specs.{Servers.{tally_in}, Traces.{at_link}}, proofs.Traces.{Does-then, alone, heard_so}}
 use Rattle.relay_serving.proofs.server.Server.hear_next.Goals as goal
 
 pub returns-in-Ok : goal.returns-in-Ok

@@ -1,6 +1,7 @@
 -- Each turn so far was whole.
 use Rattle.std.proofs.Common.{length, None}
-use Rattle.relay_serving.{specs.{Devices.{devices_seen, feed_at, link_at, words_at}, Stages.{progress_in}, Traces.{world}}, proofs.Running.{IsRunning}}
+use Rattle.amt_ports.specs.Devices.{feed_at, link_at, words_at}
+use Rattle.relay_serving.{specs.{Devices.{devices_seen}, Stages.{progress_in}, Traces.{world}}, proofs.Running.{IsRunning}}
 use Rattle.relay_serving.proofs.server.Server.run.Given as goal
 
 abbrev pub invariant-loop-done : goal.invariant-loop-done
