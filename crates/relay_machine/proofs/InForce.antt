@@ -1,8 +1,8 @@
 -- The limits in force after events.
-use Rattle.std.{proofs.{Common.{◌≡◌, ℕ, ◌≤◌, ◌∷◌, ◌++◌, [], Bool, List, true, le_refl, refl, ap, if◌then◌else◌, ◌∙◌}, lemmas.{Bool.{cond_both, le-leb, leb-true, Decides.{Decides-and, Decides-like}}, List.Sums.{fold-append}}}, specs.{Bool.{Decides}, List.{fold}}}
+use Rattle.std.{proofs.{Common.{◌≡◌, ℕ, ◌≤◌, ◌∷◌, ◌++◌, [], Bool, List, le_refl, refl, ap, if◌then◌else◌, ◌∙◌}, lemmas.{Bool.{cond_both, le-leb, leb-true, Decides.{Decides-and, Decides-like}}, List.Sums.{fold-append}}}, specs.{Bool.{Decides}, List.{fold}}}
 use Rattle.response_mac.specs.declared.secret.Secret.{Secret}
 use Rattle.endpoint_membership.specs.{Limits.{AreAtMost, AreWithin}, declared.limits.Limits.{Limits as LimitNumbers}}
-use Rattle.relay_machine.specs.{declared.{event.Event.{Event, TheVariants.{Moment, Datagram, Packet, Rotate, Limits}}, settings.Settings.{Settings}}, EventSize.{IsPayload}, Events.{is_from_one_to, limits_after, limits_at, may_be_in_force}}
+use Rattle.relay_machine.specs.{declared.{event.Event.{Event, TheVariants.{Moment, Rotate, Limits}}, settings.Settings.{Settings}}, EventSize.{IsPayload}, Events.{is_from_one_to, limits_after, limits_at, may_be_in_force}}
 
 is_from_one_to-true : (given number : ℕ) → Decides (is_from_one_to given number) ((1 ≤ number) × (number ≤ given))
 is_from_one_to-true given number =

@@ -1,5 +1,5 @@
 -- The memberships by the accepted log are within the limits, whatever the events.
-use Rattle.std.proofs.Common.{◌≡◌, ℕ, max, List, [], ◌∷◌, ◌++◌, reverse, filter, Option, Some, None, refl, arith}
+use Rattle.std.proofs.Common.{ℕ, max, List, [], ◌∷◌, ◌++◌, reverse, filter, Option, Some, None, refl, arith}
 use Rattle.response_mac.specs.declared.secret.Secret.{Secret}
 use Rattle.endpoint_membership.specs.{Membership.{is_fresh}, Limits.{AreAtMost, IsWithin}, Log.{latest}, Table.{Holds, TableValue, TableSettings, memberships_now}, declared.{change.Change.{Change, TheVariants.{Clear, Mark, Reported}}, limits.Limits.{Limits}}}
 use Rattle.endpoint_membership.proofs.{MembershipsByLog.{AreMembershipsAt-memberships_at}, Clearings.{IsWithin-cleared}, FittingReports.{IsWithin-fits}, HoldsAfter.{Holds-mark, IsWithin-log, none_where_it_fits}, WithinLimits.{IsWithin-filter}}

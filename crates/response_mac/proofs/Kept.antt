@@ -1,5 +1,5 @@
 -- The secrets that are kept, and the slots that they stand in.
-use Rattle.std.proofs.{Common.{◌≡◌, ℕ, ◌+◌, ◌-◌, ◌≤◌, ◌<◌, suc, List, [], ◌∷◌, ◌++◌, length, take, drop, set, get_or, map, replicate, reverse, Option, Some, None, refl, sym, ap, ◌∙◌, append_assoc, arith, min, subst, zero}, lemmas.List.{drop_more, length-reverse, length-take, length-take-le, reverse-append, set_at, get_or_at, take-take, take_more}}
+use Rattle.std.proofs.{Common.{◌≡◌, ℕ, ◌+◌, ◌-◌, ◌≤◌, ◌<◌, suc, List, [], ◌∷◌, ◌++◌, length, take, drop, map, replicate, reverse, Option, Some, None, refl, sym, ap, ◌∙◌, arith, zero}, lemmas.List.{length-reverse, length-take, reverse-append, take-take}}
 use Rattle.std.specs.List.{slice_index_or}
 use Rattle.response_mac.specs.{declared.secret.Secret.{Secret}, ResponseMac.{AreSlots, SecretsValue, older_in, secrets_after, slots_of}}
 

@@ -25,7 +25,7 @@ pub struct Secrets {
 }
 
 impl Model for Secrets {
-    ghost use Rattle.response_mac.specs.ResponseMac.{AreSlots, SecretsValue, older_in, slots_of};
+    ghost use Rattle.response_mac.specs.ResponseMac.{AreSlots, SecretsValue, older_in};
 
     ghost Value = { SecretsValue };
 

@@ -1,4 +1,4 @@
-use Rattle.std.proofs.Common.{◌≡◌, ◌≤◌, ◌-◌, ◌∷◌, ◌++◌, ℕ, Some, take, drop, ap, ◌∙◌, arith}
+use Rattle.std.proofs.Common.{◌≤◌, ◌-◌, ◌∷◌, ◌++◌, Some, take, drop, ap, ◌∙◌, arith}
 use Rattle.response_mac.specs.{declared.secret.Secret.{Secret}, ResponseMac.{SecretsValue}}
 use Rattle.response_mac.proofs.Kept.{AreSlots-pushed, secrets_after-more}
 use Rattle.response_mac.proofs.secrets.Secrets.rotate.Goals as goal
