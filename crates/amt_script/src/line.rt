@@ -11,7 +11,7 @@ use crate::limits_line::read_limits;
 use crate::script::RelayItem;
 use crate::set_line::{read_set, reason_of_set_alone};
 use crate::setting::Setting;
-use crate::settling::with_limits_given;
+use crate::settling::limits_given;
 use crate::statement::{read_datagram, read_moment_item, read_packet, read_rotation, read_show};
 use script_lines::{LineError, Reason};
 use std::alloc::Global;
@@ -57,7 +57,7 @@ pub fn read_statement(
         },
         Ok((Kind::Moment, values)) => item_of(read_moment_item(values)),
         Ok((Kind::Secret, values)) => item_of(read_rotation(values)),
-        Ok((Kind::Limits, values)) => item_of(read_limits(&with_limits_given(given), values)),
+        Ok((Kind::Limits, values)) => item_of(read_limits(&limits_given(given), values)),
         Ok((Kind::Datagram, values)) => Ok(RelayStatement::Item(read_datagram(alloc, values)?)),
         Ok((Kind::Packet, values)) => Ok(RelayStatement::Item(read_packet(alloc, values)?)),
         Ok((Kind::Show, values)) => item_of(read_show(values)),

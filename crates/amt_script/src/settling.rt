@@ -7,6 +7,7 @@ ghost use Rattle.amt_script.specs.{Reading.{IsAllowed}, Settling.{Settles, limit
 use crate::kind::Key;
 use crate::setting::{Setting, setting_at};
 use amt_values::Ip;
+use endpoint_membership::Limits;
 use relay_machine::Settings;
 use response_mac::Secret;
 
@@ -60,11 +61,11 @@ fn settings_of(relay: Ip, given: &[Setting]) -> Settings
     settings
 }
 
-/// Settings with the limits that are given, or the default ones. Another address is the relay's.
-pub fn with_limits_given(given: &[Setting]) -> Settings
-    ensures { AllByRecursion IsAllowed given.now → result.limits ≡ limits_given given.now }
+/// The limits that these settings allow: those that are given, or the defaults.
+pub fn limits_given(given: &[Setting]) -> Limits
+    ensures { AllByRecursion IsAllowed given.now → result ≡ limits_given given.now }
 {
-    settings_of(Ip::V4(0), given)
+    settings_of(Ip::V4(0), given).limits
 }
 
 /// What these settings set; none where there is no relay's address.
