@@ -9,6 +9,16 @@ silent_by : (here : Bool) (records : List Record) → records ≡ [] → (if her
 silent_by true records none = ap (λ (all : List Record). reverse all) none
 silent_by false records none = refl
 
+-- what is within limits stays so as time passes
+pub IsWithin-later : (settings : TableSettings) (log : List Change) (at : ℕ) (given : Limits) → IsWithin given (memberships_now settings log)
+    → IsWithin given (memberships_without settings log at)
+IsWithin-later settings log at given within =
+    let later = max at (latest log) in
+    let now = memberships_now settings log in
+    let table : TableValue = record { moment = latest log; limits = settings.limits; in_force = settings.limits; lifetime = settings.lifetime; rows = now } in
+    let stands : Holds settings table log = record { limits = refl; lifetime = refl; moment = refl; rows = AreMembershipsAt-memberships_at settings.lifetime (latest log) log } in
+    subst (IsWithin given) (fresh_are settings table log at later (omega arith) stands) (IsWithin-filter given (is_fresh settings.lifetime later) now within)
+
 module _ (settings : TableSettings) (log : List Change) (endpoint : EndpointValue) (records : List Record) (at : ℕ) where
   abbrev entry : Change
   entry = Reported endpoint records at
@@ -29,14 +39,10 @@ module _ (settings : TableSettings) (log : List Change) (endpoint : EndpointValu
       ∙ membership_at-other settings.lifetime later entry (reverse log) place none
       ∙ sym ((AreMembershipsAt-memberships_at settings.lifetime later log).each place)
 
-  pub IsWithin-fits : (given limits : Limits) → AreAtMost given limits → IsWithin given (memberships_now settings log) → ReportFits (record settings { limits = limits }) log endpoint records at → IsWithin given after
+  pub IsWithin-fits : (given limits : Limits) → AreAtMost given limits → IsWithin given without → ReportFits (record settings { limits = limits }) log endpoint records at → IsWithin given after
   IsWithin-fits given limits less within fits =
       let later = max at (latest log) in
-      let now = memberships_now settings log in
-      let table : TableValue = record { moment = latest log; limits = settings.limits; in_force = limits; lifetime = settings.lifetime; rows = now } in
-      let stands : Holds settings table log = record { limits = refl; lifetime = refl; moment = refl; rows = AreMembershipsAt-memberships_at settings.lifetime (latest log) log } in
-      let kept = subst (IsWithin given) (fresh_are settings table log at later (omega arith) stands) (IsWithin-filter given (is_fresh settings.lifetime later) now within) in
       IsWithin-report given limits endpoint records without after (AreMembershipsAt-memberships_at settings.lifetime later log).ascend
-      (AreMembershipsAt-memberships_at settings.lifetime (latest (log ++ entry ∷ [])) (log ++ entry ∷ [])).ascend less kept fits
+      (AreMembershipsAt-memberships_at settings.lifetime (latest (log ++ entry ∷ [])) (log ++ entry ∷ [])).ascend less within fits
       (λ place apart. unconcerned place (rw apart refl))
       (λ group membership silent found. sym (unconcerned (record { endpoint = endpoint; group = group }) (silent_by (same_endpoint endpoint endpoint) (on_group group records) silent)) ∙ found)

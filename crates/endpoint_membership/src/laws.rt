@@ -2,7 +2,7 @@
 ghost use Rattle.std.specs.Prelude.{ℕ, ◌≡◌, ◌≤◌, ◌<◌, ◌↔◌, max, true, false, List, [], ◌∷◌, ◌++◌, reverse, Some, None, Contains};
 ghost use Rattle.amt_values.specs.{declared.address.Ip.{Ip}, Order.{endpoint_order}, EndpointValue.{EndpointValue}, Ascending.{IsAscending}};
 ghost use Rattle.source_filter.specs.{Filter.{admits}, declared.record.Record.{Record}};
-ghost use Rattle.endpoint_membership.specs.{Admission.{HasNoMembership, is_admitted, rows_admit}, Chain.{IsLongestChain}, Limits.{AreAtMost, IsWithin}, Log.{latest, live_chain}, EndpointGroup.{EndpointGroup}, Memberships.{is_live, rows_of, membership_at, memberships_at}, Targets.{targets_of}, Table.{ReportFits, TableSettings, limit_passed, memberships_now, memberships_with}, declared.{change.Change.{Change, TheVariants.{Clear, Mark}}, limits.Limits.{Limits}}, Membership.{Membership}};
+ghost use Rattle.endpoint_membership.specs.{Admission.{HasNoMembership, is_admitted, rows_admit}, Chain.{IsLongestChain}, Limits.{AreAtMost, IsWithin}, Log.{latest, live_chain}, EndpointGroup.{EndpointGroup}, Memberships.{is_live, rows_of, membership_at, memberships_at}, Targets.{targets_of}, Table.{ReportFits, TableSettings, limit_passed, memberships_with, memberships_without}, declared.{change.Change.{Change, TheVariants.{Clear, Mark}}, limits.Limits.{Limits}}, Membership.{Membership}};
 
 /// A membership lasts as long as reports renew it in time (RFC 3376, section 8.4): what counts of an
 /// endpoint in a group is the longest run of its newest renewals in which no gap, and none up to the
@@ -80,7 +80,7 @@ pub fn reports_that_fit_pass_no_limit()
     ensures within { (settings : TableSettings) (limits : Limits) (log : List Change)
         (endpoint : EndpointValue) (records : List Record) (at : ℕ)
         → AreAtMost settings.limits limits
-        → IsWithin settings.limits (memberships_now settings log)
+        → IsWithin settings.limits (memberships_without settings log at)
         → ReportFits (record settings { limits = limits }) log endpoint records at
         → IsWithin settings.limits (memberships_with settings log endpoint records at) }
 {}

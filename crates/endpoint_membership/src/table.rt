@@ -79,8 +79,7 @@ impl Table {
         self.moment
     }
 
-    /// The limits in force, by which reports are judged. More may be kept, where they were lowered,
-    /// but never more than the limits given to `new`.
+    /// The limits in force, by which reports are judged. More may be kept, where they were lowered.
     pub fn limits(&self) -> Limits
         ensures { result ≡ self.now.in_force }
     {

@@ -2,7 +2,7 @@
 use Rattle.std.proofs.Common.{ℕ, max, List, [], ◌∷◌, ◌++◌, reverse, filter, Option, Some, None, refl, arith}
 use Rattle.response_mac.specs.declared.secret.Secret.{Secret}
 use Rattle.endpoint_membership.specs.{Membership.{is_fresh}, Limits.{AreAtMost, IsWithin}, Log.{latest}, Table.{Holds, TableValue, TableSettings, memberships_now}, declared.{change.Change.{Change, TheVariants.{Clear, Mark, Reported}}, limits.Limits.{Limits}}}
-use Rattle.endpoint_membership.proofs.{MembershipsByLog.{AreMembershipsAt-memberships_at}, Clearings.{IsWithin-cleared}, FittingReports.{IsWithin-fits}, HoldsAfter.{Holds-mark, IsWithin-log, none_where_it_fits}, WithinLimits.{IsWithin-filter}}
+use Rattle.endpoint_membership.proofs.{MembershipsByLog.{AreMembershipsAt-memberships_at}, Clearings.{IsWithin-cleared}, FittingReports.{IsWithin-fits, IsWithin-later}, HoldsAfter.{Holds-mark, IsWithin-log, none_where_it_fits}, WithinLimits.{IsWithin-filter}}
 use Rattle.relay_machine.specs.{declared.{event.Event.{Event, TheVariants.{Moment}}, settings.Settings.{Settings}}, Accepted.{accepted_back, accepted_log, entry_after, with_change}, Events.{limits_at, now_of, secrets_of, settings_at}, Settings.{table_settings_of}}
 use Rattle.relay_machine.proofs.{InForce.{AreAtMost-limits_at}, Judged.{MayEnter, may-enter}}
 
@@ -32,7 +32,8 @@ within-entry terms limits log moment None less may within = within
 within-entry terms limits log moment (Some (Mark at)) less may within = within-mark terms log at within
 within-entry terms limits log moment (Some (Clear endpoint at)) less may within = IsWithin-cleared terms.limits terms log endpoint at within
 within-entry terms limits log moment (Some (Reported source records at)) less may within =
-    IsWithin-fits terms log source records at terms.limits limits less within ((none_where_it_fits (record terms { limits = limits }) log source records at).0 may.1)
+    IsWithin-fits terms log source records at terms.limits limits less (IsWithin-later terms log at terms.limits within)
+    ((none_where_it_fits (record terms { limits = limits }) log source records at).0 may.1)
 
 within-back : (settings : Settings) (first : Secret) (back : List Event) → IsLogWithin (table_settings_of settings) (accepted_back settings first back)
 unfolding accepted_back

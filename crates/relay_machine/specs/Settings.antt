@@ -18,8 +18,8 @@ pub record NumberRow : Type 0 where
 -- the table of these settings. The robustness isn't zero (RFC 3376, section 8.1), and three bits carry
 -- it (section 4.1.6); the greatest time that a query carries is 31,744 (section 4.1.7; sections 8.2 and
 -- 8.3 have the defaults). A gateway goes on using the last MAC that it was sent, so by default a secret
--- outlives one rotation (RFC 7450, section 5.3.6). A packet has at least an IPv4 header, and with two octets before it fits a
--- UDP payload
+-- outlives one rotation (RFC 7450, section 5.3.6). A packet has at least an IPv4 header, and with two
+-- octets before it fits a UDP payload
 abbrev pub number_row : NumberKey → NumberRow
 number_row Robustness = record { least = 1; most = 7; default = 2; number = λ s. s.robustness; with = λ s n. record s { robustness = n } }
 number_row QuerySeconds = record { least = 1; most = 31744; default = 125; number = λ s. s.query_seconds; with = λ s n. record s { query_seconds = n } }

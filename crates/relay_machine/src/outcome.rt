@@ -55,7 +55,8 @@ pub enum Outcome {
     BadMac,
     /// An Update with a good MAC carries no membership report.
     Unlawful(Unlawful),
-    /// With the report of an Update the memberships would pass a limit in force at the relay.
+    /// With the report of an Update the memberships would pass a limit in force at the relay, and be
+    /// more than without it.
     Over(LimitFault),
     /// The report of an Update was accepted.
     Updated,

@@ -19,11 +19,11 @@ use std::alloc::{AllocError, Global};
 ///
 /// Contracts see each of its fields, so where they say that a relay is as before, nothing more was
 /// kept; a cell, of which they see nothing, none of its fields is. What the table keeps is within the
-/// limits, and represents some log.
+/// limits of the settings, and represents some log.
 ///
-/// The room for a packet's receivers is taken once, for as many as the limits allow, so that a packet
-/// takes memory for its sends alone. It is no state of the protocol: contracts see that there is room for
-/// as many as the limits allow, and that no receiver is in it between events.
+/// The room for a packet's receivers is taken once, for as many as the settings' limits allow, so that a
+/// packet takes memory for its sends alone. It is no state of the protocol: contracts see that there is
+/// room for as many, and that no receiver is in it between events.
 #[derive(Debug, Drop)]
 pub struct Relay {
     setup: Setup,

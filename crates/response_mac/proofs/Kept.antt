@@ -37,12 +37,12 @@ AreSlots-pushed keep slots after new are is =
     let older = older_in slots in
     let used = keep - 1 in
     let pushed : after ≡ slots_of (take used (new ∷ older)) =
-    is ∙ (ap (λ (all : List (Option Secret)). take used (Some new ∷ all) ++ drop used all) are.alone
+    is ∙ (ap (λ (all : List (Option Secret)). take used (Some new ∷ all) ++ drop used all) (sym are.back)
     ∙ slots_of-pushed used older new (omega (arith, are.within)) (omega (arith, are.few))) in
     let held : older_in after ≡ take used (new ∷ older) = ap older_in pushed ∙ older_in-slots_of (take used (new ∷ older)) in
     let size = ap (λ (all : List Secret). length all) held in
     let taken = length-take used (new ∷ older) in (
-      record { some = are.some; few = are.few; within = omega (arith, size, taken, are.some); alone = pushed ∙ sym (ap slots_of held) },
+      record { some = are.some; few = are.few; within = omega (arith, size, taken, are.some); back = ap slots_of held ∙ sym pushed },
       held,
     )
 

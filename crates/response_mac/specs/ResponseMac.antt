@@ -38,7 +38,7 @@ pub record AreSlots (keep : ℕ) (slots : List (Option Secret)) : Type 0 where
   pub some : 1 ≤ keep
   pub few : keep ≤ 4
   pub within : length (older_in slots) + 1 ≤ keep
-  pub alone : slots ≡ slots_of (older_in slots)
+  pub back : slots_of (older_in slots) ≡ slots
 
 -- the current secret or one of the older ones that are kept gives the MAC
 abbrev pub IsGood : SecretsValue → EndpointValue → ℕ → Mac48 → Type 0

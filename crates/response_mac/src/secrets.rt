@@ -25,13 +25,18 @@ pub struct Secrets {
 }
 
 impl Model for Secrets {
-    ghost use Rattle.response_mac.specs.ResponseMac.{AreSlots, SecretsValue, older_in};
+    ghost use Rattle.response_mac.specs.ResponseMac.{AreSlots, SecretsValue, older_in, slots_of};
 
     ghost Value = { SecretsValue };
 
     ghost view = { λ s. record { current = s.current; older = older_in s.older; keep = s.keep } };
 
     ghost invariant = { λ s. AreSlots s.keep s.older };
+
+    // The slots are those of the older secrets, so nothing is kept beside what contracts see.
+    ghost inverse = { λ v. record { keep = v.keep; current = v.current; older = slots_of v.older } };
+
+    ghost inverse_ok = { λ s sound i. record { keep = s.keep; current = s.current; older = sound.back i } };
 }
 
 impl Secrets {
