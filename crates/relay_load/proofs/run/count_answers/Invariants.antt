@@ -1,4 +1,4 @@
-use Rattle.std.proofs.Common.{◌≤◌, [], take}
+use Rattle.std.proofs.Common.{◌≡◌, ◌≤◌, [], take}
 use Rattle.response_mac.specs.declared.secret.Secret.{Secret}
 use Rattle.relay_machine.specs.{declared.settings.Settings.{Settings}, Answers.{RelayAt, settings_of}}
 use Rattle.relay_load.specs.Counting.{AreSmall, IsCounted}
