@@ -19,7 +19,8 @@ use socket_merge::{SocketFault, Sockets};
 use source_filter::Records;
 use std::alloc::{AllocError, Global};
 
-/// The sockets after the event's call, or why it isn't made. What is no call has none.
+/// The sockets after the event's call, or why it isn't made. An event without a call is answered as if
+/// memory were refused, and no caller hands one in.
 pub fn make_call(
     alloc: Global,
     here: &Situation<'_>,

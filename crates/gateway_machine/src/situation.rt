@@ -7,7 +7,7 @@ use crate::exchange::Exchange;
 use crate::settings::GatewaySettings;
 use socket_merge::Sockets;
 
-/// What an event is answered by. Reports go out from an address of the gateway's family, as its sockets'
+/// A gateway as it stands before an event. Reports go out from an address of the gateway's family, as its sockets'
 /// groups are, and no socket call is later than the exchange's moment.
 #[derive(Clone, Copy)]
 pub struct Situation<'a> {
