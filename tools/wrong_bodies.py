@@ -42,12 +42,14 @@ PARTS = ("src", "specs", "proofs")
 # The kit's logic, by its sum. Kits of one logic may still search differently: before a release all are tried with --anew.
 LOGIC = subprocess.run(["rt", "version"], capture_output=True, check=True).stdout.partition(b" logic ")[2].strip()
 # Is one more whenever this tool takes something else for a refusal: what was noted before counts no more then.
-RULE = 2
+RULE = 3
 # The most edits of a crate that are checked in one go, and how many a lane tries before it checks the crate as it stands.
 AT_ONCE, BETWEEN = 12, 16
 FUNCTION_NAME = re.compile(r"\bfn (\w+)")
 # What the checker says of a text that it can't read, where a wrong body is to be read and refused.
 UNREAD = re.compile(r"is not in scope|has no field|is no name|operand is missing|expected the end|cannot continue")
+# What it says of a body that is no Rust at all, which no prover has judged.
+NO_RUST = re.compile(r"error\[E\d{4}\].*|.*the borrow checker does not cover this function.*")
 # An error in a text of ours: its place, the declaration that it is in, where it names one, and what it says.
 ERROR = re.compile(r"(?:\./)?((?:src|specs)/\S+?):(\d+):\d+: error: (?:(`[^`]*`): )?(.*)")
 # A goal of ours that is left, and its place; a function some of whose own goals are left, and not one that waits for another.
@@ -226,7 +228,7 @@ class Lane:
             texts[path] = "\n".join(lines)
         status, said, used = self.check(texts)
         errors, unread = errors_in(said)
-        if status != 1 or unread or STALE.search(said) or not is_not_proved(said):
+        if status != 1 or unread or NO_RUST.search(said) or STALE.search(said) or not is_not_proved(said):
             return set(), used
         lines = said.split("\n")
         hits = {(it[1], int(it[2])) for it in [*errors, *filter(None, map(GOAL.match, lines))]}
@@ -247,6 +249,8 @@ class Lane:
         errors, unread = errors_in(said)
         if unread:
             return False, f"BAD EDIT: the prover can't read it: {unread[0][:160]}", used
+        if no_rust := NO_RUST.search(said):
+            return False, f"BAD EDIT: it is no Rust: {no_rust[0].strip()[:160]}", used
         if STALE.search(said):
             return False, "NOT TRIED: the kept work of a library could not be used", used
         if status < 0 or status > 128:
