@@ -3,12 +3,12 @@ use Rattle.std.specs.Prelude.{ℕ, ◌==◌, Bool, false, true, List, [], ◌∷
 use Rattle.amt_values.specs.{Address.{number_of}, Endpoint.{peer_of}, EndpointValue.{EndpointValue}, Text.{ip_text, peer_text}, declared.{address.Ip.{Ip}, mac.Mac48.{Mac48}}}
 use Rattle.amt_messages.specs.{Refusal.{message_of}, declared.{message.Message.{Message, TheVariants.{Discovery, Advertisement, Request, Query, Update, Multicast, Teardown}}, refusal.Refused.{Refused}}}
 use Rattle.inner_datagrams.specs.{Head.{head_of}, declared.head.{Head.{Head}, HeadFault.{HeadFault}}}
-use Rattle.source_filter.specs.{declared.query.QueryRead.{QueryRead}, declared.record.{Record.{Record}, RecordKind.{RecordKind, TheVariants.{IsIn, IsEx, ToIn, ToEx, Allow, Block}}}}
+use Rattle.source_filter.specs.declared.{query.QueryRead.{QueryRead}, record.Record.{Record}}
 use Rattle.group_records.specs.{Code.{code_value}, declared.family.Family.TheVariants.{V4}}
 use Rattle.socket_merge.specs.Refusal.{family_of}
 use Rattle.relay_machine.specs.{Updates.{report_in}, declared.outcome.Unlawful.{Unlawful}}
 use Rattle.script_lines.specs.{Texts.{hex_text, nonce_text}, FaultTexts.{head_text, refusal_text}}
-use Rattle.amt_script.specs.Texts.{sources_text, unlawful_text}
+use Rattle.amt_script.specs.Texts.{group_record_text, unlawful_text}
 use Rattle.amt_dump.specs.Queries.{query_in}
 
 -- `L TEXT`: a line of output begins with the number of the line that it is about
@@ -77,19 +77,9 @@ abbrev pub query_lines : ℕ → Result QueryRead Unlawful → List ℕ
 query_lines number (Ok query) = line_of number (general_words query) ++ group_lines number query.group
 query_lines number (Err fault) = line_of number (unlawful_text fault)
 
--- what a group record is about (RFC 3376, section 4.2.12; RFC 3810, section 5.2.12)
-abbrev pub kind_word : RecordKind → List ℕ
-kind_word IsIn = codes "is_in"
-kind_word IsEx = codes "is_ex"
-kind_word ToIn = codes "to_in"
-kind_word ToEx = codes "to_ex"
-kind_word Allow = codes "allow"
-kind_word Block = codes "block"
-
 -- a record, with its sources in their order and with repeats
 abbrev pub record_words : Record → List ℕ
-record_words one =
-    codes "record " ++ (kind_word one.kind ++ (codes " " ++ (ip_text one.group ++ (codes " " ++ sources_text one.sources))))
+record_words one = codes "record " ++ group_record_text one
 
 -- a line for each record, or why there are none
 abbrev pub report_lines : ℕ → Result (List Record) Unlawful → List ℕ

@@ -2,39 +2,21 @@
 
 ghost use Rattle.std.specs.Prelude.{◌≡◌, ◌≤◌, ◌++◌, codes, length, Ok, OnOk};
 ghost use Rattle.relay_machine.specs.Updates.{report_in};
-ghost use Rattle.amt_dump.specs.Texts.{kind_word, line_of, record_words, report_lines};
+ghost use Rattle.amt_dump.specs.Texts.{line_of, record_words, report_lines};
 
 use crate::line::begin_line;
 use crate::query_text::append_fault;
-use amt_script::append_sources;
+use amt_script::append_group_record;
 use amt_values::Bytes;
 use relay_machine::{Unread, read_report};
-use script_lines::append_ip;
-use source_filter::{Record, RecordKind, Records};
+use source_filter::{Record, Records};
 use std::alloc::{AllocError, Global};
-
-fn kind_word(kind: RecordKind) -> &'static str
-    ensures { result.now ≡ kind_word kind }
-{
-    match kind {
-        RecordKind::IsIn => "is_in",
-        RecordKind::IsEx => "is_ex",
-        RecordKind::ToIn => "to_in",
-        RecordKind::ToEx => "to_ex",
-        RecordKind::Allow => "allow",
-        RecordKind::Block => "block",
-    }
-}
 
 fn append_record_words(text: &mut Bytes, one: &Record) -> Result<(), AllocError>
     ensures { OnOk result (text.new ≡ text.old ++ record_words one.now) }
 {
     text.append(b"record ")?;
-    text.append(kind_word(one.kind).as_bytes())?;
-    text.append(b" ")?;
-    append_ip(text, &one.group)?;
-    text.append(b" ")?;
-    append_sources(text, one.sources.as_slice())
+    append_group_record(text, one)
 }
 
 fn append_record(text: &mut Bytes, number: u32, one: &Record) -> Result<(), AllocError>

@@ -1,6 +1,7 @@
 -- What is written of a relay's events, of its steps and of what stands.
 use Rattle.std.specs.{Prelude.{ℕ, true, false, List, [], ◌∷◌, ◌++◌, length, codes, decimal, flat_map, Option, Some, None}, List.{filter_map}}
 use Rattle.amt_values.specs.{declared.address.Ip.{Ip}, Endpoint.{peer_of}, Text.{ip_text, peer_text}}
+use Rattle.source_filter.specs.declared.record.{Record.{Record}, RecordKind.{RecordKind, TheVariants.{IsIn, IsEx, ToIn, ToEx, Allow, Block}}}
 use Rattle.endpoint_membership.specs.declared.{limits.LimitFault.{LimitFault, TheVariants.{Sources, Groups, Endpoints}}, row.Row.{Row}}
 use Rattle.response_mac.specs.declared.secret.Secret.{Secret}
 use Rattle.relay_machine.specs.declared.{event.Event.{Event}, outcome.{NotForwarded.{NotForwarded, TheVariants.{Head, Scope}}, Outcome.{Outcome}}}
@@ -79,6 +80,19 @@ step_text number outcome sends = answer_line number outcome ++ flat_map send_tex
 abbrev pub sources_text : List Ip → List ℕ
 sources_text [] = codes "-"
 sources_text (first ∷ rest) = ip_text first ++ flat_map (λ source. codes "," ++ ip_text source) rest
+
+-- what a group record is about (RFC 3376, section 4.2.12; RFC 3810, section 5.2.12)
+abbrev pub kind_word : RecordKind → List ℕ
+kind_word IsIn = codes "is_in"
+kind_word IsEx = codes "is_ex"
+kind_word ToIn = codes "to_in"
+kind_word ToEx = codes "to_ex"
+kind_word Allow = codes "allow"
+kind_word Block = codes "block"
+
+-- `KIND GROUP SOURCES`: a group record, with its sources in their order and with repeats
+abbrev pub group_record_text : Record → List ℕ
+group_record_text one = kind_word one.kind ++ (codes " " ++ (ip_text one.group ++ (codes " " ++ sources_text one.sources)))
 
 -- `* PEER GROUP MODE SOURCES`
 unfoldable pub row_text : Row → List ℕ
