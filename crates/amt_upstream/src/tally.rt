@@ -45,6 +45,7 @@ impl Tally {
     }
     /// Takes back what `count` did.
     pub fn restore(&mut self, added: &[CountKey], removed: &[CountKey])
+        requires zeros { IsCleanBesides removed.now self.old.numbers }
         requires present { (key : Key) → has key_order removed.now key ≡ true
             → is_some (entry_at self.old.numbers key) ≡ true }
         requires room { (key : Key) → number self.old.numbers key + length removed.now < 2 ^ 64 }
