@@ -8,6 +8,7 @@ pub mod GroupFilter
 pub mod Limits
 pub mod Log
 pub mod Membership
+pub mod MembershipChanges
 pub mod Memberships
 pub mod Parts
 pub mod Published

@@ -14,6 +14,7 @@ mod first_limit;
 mod keys;
 mod laws;
 mod limits;
+mod membership_change;
 mod parts;
 mod published;
 mod row;
@@ -27,6 +28,7 @@ pub use laws::{
     reports_that_fit_pass_no_limit, rows_admit_by_the_newest_record, targets_are_those_that_want,
 };
 pub use limits::{AcceptFault, LimitFault, Limits};
+pub use membership_change::{MembershipChange, MembershipChanges};
 pub use published::{
     clearings_of_none_may_be_left_out, published_logs_grow_with_accepted_ones,
     published_logs_tell_what_accepted_ones_do,

@@ -19,6 +19,7 @@ use std::alloc::{AllocError, Global};
 use std::marker::Model;
 
 mod absorb;
+mod changes;
 
 /// The memberships of each tunnel endpoint of a relay.
 ///

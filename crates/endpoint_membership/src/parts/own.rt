@@ -1,15 +1,15 @@
 //! What an endpoint wants of each group before a report, and how long the list of a group is.
 
-ghost use Rattle.std.specs.{Prelude.{◌≡◌, ◌≤◌, ◌+◌, nat_lt, length, IfOk, OnOk, if◌then◌else◌}, BTreeMap.{get}, List.{filter}};
+ghost use Rattle.std.specs.{Prelude.{◌≡◌, ◌≤◌, ◌+◌, nat_lt, length, IfOk, OnOk, option_copied, if◌then◌else◌}, BTreeMap.{get}, List.{filter}};
 ghost use Rattle.amt_values.specs.{declared.address.Ip.{Ip as Address}, Order.{ip_order}, Ascending.{IsAscending}};
-ghost use Rattle.endpoint_membership.specs.{Effective.{IsInOrder}, EndpointMemberships.{renewed_filter_of}, Limits.{size_at}, Membership.{is_fresh, membership_order}, Memberships.{membership_in}, Stored.{only}};
+ghost use Rattle.endpoint_membership.specs.{Effective.{IsInOrder}, EndpointMemberships.{renewed_filter_of}, MembershipChanges.{filter_at}, Limits.{size_at}, Membership.{is_fresh, membership_order}, Memberships.{membership_in}, Stored.{only}};
 
 use super::StoredMemberships;
 use crate::after_report::{RenewedFilter, set_filter};
 use crate::keys::EndpointGroup;
 use crate::stored::StoredFilter;
 use amt_values::{Endpoint, Ip, Moment};
-use source_filter::MutableFilter;
+use source_filter::{Filter, MutableFilter};
 use std::alloc::{AllocError, Global};
 use std::collections::BTreeMap;
 
@@ -74,6 +74,21 @@ impl StoredMemberships {
             }
         }
         Ok(filters)
+    }
+
+    /// The filter of the endpoint's membership in the group, if it has one.
+    pub fn filter(&self, endpoint: &Endpoint, group: &Ip) -> Option<&Filter>
+        ensures { option_copied result
+            ≡ filter_at self.now (record { endpoint = endpoint.now; group = group.now }) }
+    {
+        let at = EndpointGroup {
+            endpoint: *endpoint,
+            group: *group,
+        };
+        match self.filters.get(&at) {
+            Some(stored) => Some(&stored.filter),
+            None => None,
+        }
     }
 
     /// The size of the pair's membership at a moment, and 0 where it has none.
