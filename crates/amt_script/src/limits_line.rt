@@ -1,8 +1,7 @@
 //! What a line `limits E G S` says. It knows no line before but the limits that are set.
 
-ghost use Rattle.std.specs.Prelude.{◌≡◌, ◌≤◌, ◌↔◌, [], ◌∷◌, ◌++◌, IsTrue, IfOk, IfErr, IfSome, IfNone};
+ghost use Rattle.std.specs.Prelude.{◌≡◌, [], ◌∷◌, ◌++◌, IfOk, IfErr, IfSome, IfNone};
 ghost use Rattle.amt_values.specs.{Conditions.{First}, Numeral.{IsNumeral}};
-ghost use Rattle.endpoint_membership.specs.Limits.{AreWithin};
 ghost use Rattle.script_lines.specs.{Form.{Fails}, Lines.{fields}};
 ghost use Rattle.amt_script.specs.declared.kind.Kind.TheVariants as kinds;
 ghost use Rattle.amt_script.specs.{Fault.{FailsAs, order_of_values}, LimitsLine.{AreLimitTexts, FailsToLimit}, Row.{a_limit, words_of}, Says.{IsLimitText, SaysItem}, Script.{MayCome}};
@@ -55,21 +54,6 @@ fn limits_of_texts(endpoints: &[u8], groups: &[u8], sources: &[u8]) -> Result<Li
     }
 }
 
-fn is_limit_within(given: u32, limit: u32) -> bool
-    ensures { IsTrue result ↔ ((1 ≤ limit) × (limit ≤ given)) }
-{
-    1 <= limit && limit <= given
-}
-
-// Whether each limit is at least 1 and at most the one that is given.
-fn are_within(given: &Limits, limits: &Limits) -> bool
-    ensures { IsTrue result ↔ AreWithin given.now limits.now }
-{
-    is_limit_within(given.endpoints, limits.endpoints)
-        && is_limit_within(given.groups, limits.groups)
-        && is_limit_within(given.sources, limits.sources)
-}
-
 /// The item of a line `limits E G S`, by what follows its first word, after settings of these limits.
 pub fn read_limits(given: &Limits, values: &[u8]) -> Result<RelayItem, Reason>
     ensures may { IfOk result (MayCome given.now) }
@@ -83,7 +67,7 @@ pub fn read_limits(given: &Limits, values: &[u8]) -> Result<RelayItem, Reason>
         Ok(limits) => limits,
         Err(reason) => return Err(reason),
     };
-    if !are_within(given, &limits) {
+    if !given.allow(&limits) {
         return Err(Reason::Range);
     }
     Ok(RelayItem::Event(Event::Limits(limits)))

@@ -148,9 +148,7 @@ impl Settings {
     pub fn allows_limits(&self, limits: &Limits) -> bool
         ensures { IsTrue result ↔ AreWithin self.now.limits limits.now }
     {
-        is_from_one_to(self.limits.endpoints, limits.endpoints)
-            && is_from_one_to(self.limits.groups, limits.groups)
-            && is_from_one_to(self.limits.sources, limits.sources)
+        self.limits.allow(limits)
     }
 
     /// How long a membership report counts, in milliseconds (RFC 3376, section 8.4).
@@ -174,12 +172,6 @@ fn has_mld_code(time: u32) -> bool
     ensures { IsTrue result ↔ HasMldCode time }
 {
     value_code6(time).is_some()
-}
-
-fn is_from_one_to(most: u32, number: u32) -> bool
-    ensures { IsTrue result ↔ ((1 ≤ number) × (number ≤ most)) }
-{
-    number >= 1 && number <= most
 }
 
 fn has_lawful_product(limits: &Limits) -> bool

@@ -6,7 +6,7 @@ pub returns-in-Err-clause-reason : goal.returns-in-Err-clause-reason
 returns-in-Err-clause-reason c =
     shape_first c.args.given.now (fields c.args.values.now) _ c.in-Err.reason c.in-Some.ensures.found c.in-Err.ensures.reason
 
-pub returns-then-not-are_within-clause-reason : goal.returns-then-not-are_within-clause-reason
-returns-then-not-are_within-clause-reason c =
+pub returns-then-not-allow-clause-reason : goal.returns-then-not-allow-clause-reason
+returns-then-not-allow-clause-reason c =
     more_first c.args.given.now c.in-Ok.limits (fields c.args.values.now) c.in-Some.endpoints.now c.in-Some.groups.now c.in-Some.sources.now c.in-Some.ensures.found
-    c.in-Ok.ensures.found (λ within. let told = c.are_within.ensures.1 within in let not_told = c.if-not-are_within.true in cc (told, not_told))
+    c.in-Ok.ensures.found (λ within. let told = c.allow.ensures.1 within in let not_told = c.if-not-allow.true in cc (told, not_told))
