@@ -12,7 +12,7 @@ pub record OffersSo (event : GatewayEvent) (before after : AtWork) : Type 0 wher
   pub does : WorkDoes (offering starved event) before after
   pub needed : starved ≡ true → ¬ NeedsNoMemory event (answer_after (setup_in before.server).settings (setup_in before.server).first (events_in before.server) event).outcome
 
--- this became of the line: that it came is an answer of the feed
+-- What became of a line of the control feed. That the feed gave it is no part of this trace.
 pub record ReadsLine (bytes : List ℕ) (before after : AtWork) : Type 0 where
   pub line : Line
   pub may : MayBecome (family_in before.server) bytes line

@@ -6,8 +6,8 @@ use Rattle.group_records.specs.declared.family.Family.{Family}
 use Rattle.gateway_serving.specs.{Counting.{Tallies, bad_lines_taken, datagrams_heard, is_bad, is_datagram, is_line, is_starved_line, lines_taken, one_if, starved_in}, Events.{calls_in, datagrams_in, events_from, moments_in, nonces_in}, Runs.{control_answers, link_answers, moments_given, words_drawn}}
 use Rattle.gateway_serving.specs.{Servers.{counts_in, events_in, family_in, latest_in, setup_in, tally_in, wanted_packets, wanted_sends}, Taking.{HasSent}, Turns.{ControlAnswer, Turn, from_control, from_link, latest_of}, declared.server.Server.{Server}}
 
--- The events; the answers of the devices; whether the link was asked; what is counted of the answers; and at most so
--- much is that together, with the events.
+-- What was taken and heard: the events, the answers of each device, whether the link was asked, and what is counted
+-- of the answers. The events and what is counted are at most the tally.
 pub record Trace : Type 0 where
   pub events : List GatewayEvent
   pub drawn : List ℕ
@@ -108,7 +108,7 @@ pub record AtWork : Type 0 where
 abbrev pub at_work : Server → LinkSeen → ℕ → OutSeen → AtWork
 at_work server link wait out = record { server = server; link = link; wait = wait; out = out }
 
--- all that turns change: that, what is seen of the other devices, and the room of the buffer
+-- all that turns change: the gateway at work, what is seen of the other devices, and the room of the buffer
 pub record World : Type 0 where
   pub work : AtWork
   pub clock : Option (List ℕ)
@@ -139,10 +139,11 @@ pub record Does (trace : Trace) (before after : World) : Type 0 where
   pub control_waits : WaitsBriefly before.control_wait after.control_wait
   pub same_room : after.room ≡ before.room
 
--- of the gateway alone, and of one at work, whatever the other devices are
+-- the same with this gateway
 abbrev pub at_server : World → Server → World
 at_server around server = record around { work = record around.work { server = server } }
 
+-- the trace is that of a gateway at work, whatever the other devices are
 abbrev pub WorkDoes : Trace → AtWork → AtWork → Type 0
 WorkDoes trace before after = (around : World) → Does trace (record around { work = before }) (record around { work = after })
 

@@ -10,7 +10,7 @@ use gateway_machine::GatewayEvent;
 use std::alloc::Global;
 
 // The nonce of a word: its low 32 bits.
-fn nonce_by(word: u64) -> u32
+fn nonce_of(word: u64) -> u32
     ensures { result ≡ nonce_of word }
 {
     (word & 0xffff_ffff) as u32
@@ -24,7 +24,7 @@ impl Server {
             (at_work self.old (link_at L.Link link.old) (L.longest_wait link.old) (out_at O.OutLink out.old))
             (at_work self.new (link_at L.Link link.new) (L.longest_wait link.new) (out_at O.OutLink out.new)) }
     {
-        let event = GatewayEvent::Nonce(nonce_by(word));
+        let event = GatewayEvent::Nonce(nonce_of(word));
         match self.take(alloc, &event, link, out) {
             Ok(()) => {}
             // A nonce takes no memory.
