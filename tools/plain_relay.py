@@ -1,11 +1,12 @@
-"""Judges `amt replay relay` by a plain model, over random scripts.
+"""Judges `amt replay relay` and `amt replay upstream` by a plain model, over random scripts.
 
 usage: tools/plain-relay.sh AMT [SCRIPTS [SEED]]
 
 The model keeps every accepted entry and reckons what stands from the whole list anew, each time it is asked. It knows no
 map, no index and no expiry queue, and is written from docs/FORMATS.md and docs/BEHAVIOUR.md alone. A script has requests, updates
 and teardowns of few endpoints of both families with good, old and forged MACs, packets, secrets, changed limits, and moments
-before, at and after the end of a lifetime. It prints the first script whose text differs, and ends with status 1.
+before, at and after the end of a lifetime. What all endpoints together want is merged anew before and after each step.
+It prints the first script whose text differs, and ends with status 1.
 """
 import hashlib
 import hmac
@@ -107,6 +108,34 @@ def order_of(address):
     return len(address), address
 
 
+def joined(filters):
+    """What all of these filters together want of each group: whether it excludes, and the listed sources."""
+    found = {}
+    for group in {group for _, group in filters}:
+        those = [it for (_, other), it in filters.items() if other == group]
+        wanted = frozenset().union(*(listed for excludes, listed in those if not excludes))
+        unwanted = [listed for excludes, listed in those if excludes]
+        found[group] = (True, frozenset.intersection(*unwanted) - wanted) if unwanted else (False, wanted)
+    return found
+
+
+def listed_text(sources):
+    return ",".join(text_of(it) for it in sorted(sources, key=order_of)) or "-"
+
+
+def changes(before, after):
+    """The lines that tell a network of what all filters together want, group by group."""
+    before, after = joined(before), joined(after)
+    for group in sorted({*before, *after}, key=order_of):
+        (excluded, old), (excludes, new) = (it.get(group, (False, frozenset())) for it in (before, after))
+        if excluded != excludes:
+            yield f"+ {'to_ex' if excludes else 'to_in'} {text_of(group)} {listed_text(new)}"
+            continue
+        for kind, sources in (("allow", old - new if excludes else new - old), ("block", new - old if excludes else old - new)):
+            if sources:
+                yield f"+ {kind} {text_of(group)} {listed_text(sources)}"
+
+
 class Relay:
     def __init__(self, keep, limits):
         self.keep, self.secrets, self.limits, self.now, self.log = keep, [bytes(32)], limits, 0, []
@@ -168,8 +197,7 @@ class Relay:
         pairs = sorted(filters, key=lambda it: (it[0].place, order_of(it[1])))
         for endpoint, group in pairs:
             excludes, listed = filters[endpoint, group]
-            sources = ",".join(text_of(it) for it in sorted(listed, key=order_of)) or "-"
-            yield f"* {endpoint.peer} {text_of(group)} {'exclude' if excludes else 'include'} {sources}"
+            yield f"* {endpoint.peer} {text_of(group)} {'exclude' if excludes else 'include'} {listed_text(listed)}"
 
 
 def is_forwardable(group):
@@ -199,13 +227,17 @@ class Script:
         if keep != 2 or dice.random() < 0.5:
             self.lines.append(f"set secrets {keep}")
         self.lines += [f"set {key} {number}" for key, number in zip(("endpoints", "groups", "sources"), most)]
-        self.relay, self.most, self.dice, self.macs = Relay(keep, most), most, dice, [bytes(32)]
+        self.relay, self.most, self.dice, self.macs, self.filters = Relay(keep, most), most, dice, [bytes(32)], {}
 
     def say(self, line, outcome, sends=()):
         self.lines.append(line)
         self.outcomes[" ".join(outcome.split()[:2])] += 1
         self.text.append(f"= {1 + sum(it.startswith('= ') for it in self.text)} {outcome}")
         self.text += [f"> {peer} {octets.hex()}" for peer, octets in sends]
+        before, self.filters = self.filters, self.relay.filters()
+        told = list(changes(before, self.filters))
+        self.text += told
+        self.outcomes.update(" ".join(it.split()[:2]) for it in told)
 
     def add(self):
         dice, relay = self.dice, self.relay
@@ -249,6 +281,18 @@ class Script:
         self.say(f"mc {octets.hex()}", *self.relay.packet(source, group, octets))
 
 
+def differs(amt, kind, script, wanted):
+    """Prints where the program's text isn't the wanted one."""
+    ran = subprocess.run([amt, "replay", kind], input="".join(f"{it}\n" for it in script.lines), capture_output=True, text=True)
+    if (ran.returncode, ran.stdout) == (0, wanted):
+        return False
+    print(f"replay {kind} differs, status {ran.returncode} {ran.stderr}")
+    print("\n".join(script.lines))
+    for one, other in zip(wanted.split("\n"), ran.stdout.split("\n")):
+        print("  " if one == other else "! ", one, "" if one == other else f"\n  amt: {other}")
+    return True
+
+
 def main():
     amt, count, seed = sys.argv[1], int(sys.argv[2]) if len(sys.argv) > 2 else 100, int(sys.argv[3]) if len(sys.argv) > 3 else 1
     met = Counter()
@@ -257,15 +301,12 @@ def main():
         for _ in range(random.Random(-number).randrange(5, 60)):
             script.add()
         events = sum(it.startswith("= ") for it in script.text)
-        wanted = "".join(f"{it}\n" for it in [*script.text, f". {events}"])
-        ran = subprocess.run([amt, "replay", "relay"], input="".join(f"{it}\n" for it in script.lines), capture_output=True, text=True)
         met += script.outcomes
-        if (ran.returncode, ran.stdout) != (0, wanted):
-            print(f"script {number} differs, status {ran.returncode} {ran.stderr}")
-            print("\n".join(script.lines))
-            for one, other in zip(wanted.split("\n"), ran.stdout.split("\n")):
-                print("  " if one == other else "! ", one, "" if one == other else f"\n  amt: {other}")
-            return 1
+        for kind in ("relay", "upstream"):
+            lines = [it for it in script.text if kind == "upstream" or not it.startswith("+ ")]
+            if differs(amt, kind, script, "".join(f"{it}\n" for it in [*lines, f". {events}"])):
+                print(f"script {number}")
+                return 1
     print(f"{count} scripts agree; outcomes: " + ", ".join(f"{it} {many}" for it, many in sorted(met.items())))
     return 0
 

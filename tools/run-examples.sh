@@ -55,7 +55,7 @@ say() {
 
 replay() {
     local kind status=0
-    kind=$(grep -o -m 1 'replay \(relay\|gateway\|pair\) <' "$1/README.md" | cut -d ' ' -f 2)
+    kind=$(grep -o -m 1 'replay \(relay\|upstream\|gateway\|pair\) <' "$1/README.md" | cut -d ' ' -f 2)
     $amt replay "$kind" < "$1/script" > "$work/output" 2> "$work/said" || status=$?
     if [ $status = 0 ]; then
         diff "$1/expected" "$work/output" > "$work/said" || status=$?
