@@ -9,8 +9,12 @@ usage: python3 bench/mixed.py joins ENDPOINTS             settings, and a join o
                                                           and so many packets to that group
        python3 bench/mixed.py mixed ENDPOINTS OCTETS      the same, and Requests, renewals and packets in
                                                           turn, up to so many octets of script
+       python3 bench/mixed.py shared ENDPOINTS COUNT      settings, a join of each endpoint to one group with 64
+                                                          sources that are nobody else's, and so many reports of
+                                                          which each changes one of them
 
-There are at most 65,536 endpoints. Each has a group of its own; every other one is joined in MLDv2.
+There are at most 65,536 endpoints, and 20,000 of the last kind. Each has a group of its own but there; every other one
+is joined in MLDv2.
 The response MACs are of a secret of 32 zero octets.
 """
 import hashlib
@@ -42,8 +46,8 @@ def group6(index):
     return bytes.fromhex("ff3e") + index.to_bytes(14, "big")
 
 
-def report4(group):
-    body = bytes.fromhex("000000000001" "04000000") + group4(group)
+def report4(group, kind=4, sources=b""):
+    body = bytes.fromhex("000000000001%02x00%04x" % (kind, len(sources) // 4)) + group4(group) + sources
     body = b"\x22\0" + checksum(b"\x22\0" + body) + body[2:]
     front = bytes.fromhex("46c0%04x000000000102" % (24 + len(body)))
     back = bytes.fromhex("0a000002" "e0000016" "94040000")
@@ -58,11 +62,16 @@ def report6(group):
     return front + LINK + ROUTERS + bytes.fromhex("3a00050200000100") + body
 
 
-def update(index, group=None):
+def own_sources(index, turn):
+    """64 sources that are this endpoint's alone; in each turn one of them is another."""
+    return b"".join((0x0b000000 + 128 * index + many).to_bytes(4, "big") for many in range(turn % 64, turn % 64 + 64))
+
+
+def update(index, group=None, turn=None):
     group = index if group is None else group
     address = bytes(12) + (0x0a000000 + index).to_bytes(4, "big")
     mac = hmac.new(bytes(32), address + (5000).to_bytes(2, "big") + NONCE, hashlib.sha256).digest()[:6]
-    inner = report6(group) if group % 2 else report4(group)
+    inner = report6(group) if group % 2 else report4(group) if turn is None else report4(group, 1, own_sources(index, turn))
     return f"dg {peer(index)} {(bytes([5, 0]) + mac + NONCE + inner).hex()}"
 
 
@@ -83,8 +92,11 @@ def main():
     kind, endpoints = sys.argv[1], int(sys.argv[2])
     # A stride by which the endpoints come in no order.
     drawn = (step * 7919 % endpoints for step in itertools.count())
-    lines = SETTINGS + [update(index) for index in range(endpoints)]
-    if kind == "receivers":
+    lines = SETTINGS + [update(index) for index in range(endpoints if kind != "shared" else 0)]
+    if kind == "shared":
+        lines += [update(index, 0, 0) for index in range(endpoints)]
+        lines += [update(next(drawn), 0, 1 + many // endpoints) for many in range(int(sys.argv[3]))]
+    elif kind == "receivers":
         # A group that is nobody's own, joined by endpoints that stand far apart.
         shared = 65536
         lines += [update(many * endpoints // 1000, shared) for many in range(1000)]

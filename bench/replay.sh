@@ -2,7 +2,7 @@
 # What the proved binary costs over scripts of Discovery, of Request and of mixed lines, over one of a gateway
 # that packets come to, and over one of both ends, and of a dump of Queries, beside sed over the same octets;
 # then the cost of one update, packet and moment by the number of live tunnel endpoints, of a packet to 1,000 of
-# them, and of a load. Times are of the processor, and the least of some runs, so that other work on the machine
+# them, of what goes upstream, and of a load. Times are of the processor, and the least of some runs, so that other work on the machine
 # disturbs them little. It builds nothing: `rt run` in crates/amt leaves the binary at crates/amt/out/amt.
 #
 # usage: bench/replay.sh [BINARY]
@@ -116,6 +116,24 @@ for endpoints in 1000 65536; do
     mixed receivers $endpoints 0 > "$work/none"
     mixed receivers $endpoints 100 > "$work/some"
     printf '%-10s %14s\n' $endpoints "$(each "$(replay "$work/none")" "$(replay "$work/some")" 100)"
+done
+
+# What goes upstream: scripts of mixed lines as `replay relay` takes them and as `replay upstream` does; an update of one source
+# on a group on which each endpoint has 64 of its own; and a moment at which all endpoints expire.
+printf '\n%-10s %8s %12s %7s\n' mixed 'relay ms' 'upstream ms' ratio
+for mib in 1 4 16; do
+    r=$(replay "$work/mixed.$mib")
+    u=$(replay "$work/mixed.$mib" upstream)
+    printf '%-10s %8s %12s %7s\n' "$mib MiB" "$r" "$u" "$(awk "BEGIN { printf \"%.2f\", $u / $r }")"
+done
+printf '\n%-10s %10s %10s\n' endpoints 'update us' 'expiry us'
+for endpoints in 200 2000 20000; do
+    mixed shared $endpoints 0 > "$work/joins"
+    mixed shared $endpoints 2000 > "$work/updates"
+    { cat "$work/joins"; echo 'at 260000'; } > "$work/expiry"
+    j=$(replay "$work/joins" upstream)
+    printf '%-10s %10s %10s\n' $endpoints "$(each "$j" "$(replay "$work/updates" upstream)" 2000)" \
+        "$(each "$j" "$(replay "$work/expiry" upstream)" $endpoints)"
 done
 
 # A load: an event is an Update, but for the 17 others.
