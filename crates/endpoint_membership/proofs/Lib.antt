@@ -7,10 +7,12 @@ pub mod CountedParts
 pub mod EndpointGroupOrder
 pub mod EndpointRange
 pub mod EnoughRecords
+pub mod ExpiredPairs
 pub mod Expiry
 pub mod FewRows
 pub mod FilterByRecords
 pub mod FilterMap
+pub mod FiltersAfter
 pub mod FittingReports
 pub mod GroupMembers
 pub mod HoldsAfter

@@ -64,6 +64,25 @@ stored_by : (fresh : Bool) (membership : Membership) → renewed_filter_of (cond
 stored_by true membership = refl
 stored_by false membership = refl
 
+and_true : (test : Bool) → (test && true) ≡ test
+and_true true = refl
+and_true false = refl
+
+or_false : (test : Bool) → (test || false) ≡ test
+or_false true = refl
+or_false false = refl
+
+-- where no pair of the endpoint is left, those are seen that have a membership
+pub seen_pair-all : (endpoint : EndpointValue) (rows : List Membership) (seen rest : List EndpointGroup) (group : Ip) → filter (within endpoint) (map endpoint_group_of rows) ≡ seen ++ rest
+    → has endpoint_group_order rest (pair endpoint group) ≡ false → has endpoint_group_order seen (pair endpoint group) ≡ is_some (membership_in rows (pair endpoint group))
+seen_pair-all endpoint rows seen rest group whole none =
+    let own = pair endpoint group in
+    let listed = has endpoint_group_order seen own in
+    let all = has endpoint_group_order (map endpoint_group_of rows) own in
+    sym (or_false listed) ∙ ap (λ (test : Bool). listed || test) (sym none)
+    ∙ sym (has-append endpoint_group_order seen rest own) ∙ ap (λ (keys : List EndpointGroup). has endpoint_group_order keys own) (sym whole)
+    ∙ has-filter endpoint_group_order-exact (within endpoint) (map endpoint_group_of rows) own ∙ ap (λ (test : Bool). all && test) (in_range endpoint group) ∙ and_true all ∙ has-pairs rows own
+
 module _ (lifetime moment : ℕ) (endpoint : EndpointValue) (rows : List Membership) where
   -- what a table has of the pair
   abbrev pub filter_of : EndpointGroup → Option RenewedFilter
@@ -109,19 +128,8 @@ module _ (lifetime moment : ℕ) (endpoint : EndpointValue) (rows : List Members
   seen_filter-all seen rest group whole none =
       let own = pair endpoint group in
       let listed = has endpoint_group_order (map deref seen) own in
-      let all : (listed || false) ≡ is_some (membership_in rows own) = ap (λ (test : Bool). listed || test) (sym none)
-      ∙ sym (has-append endpoint_group_order (map deref seen) rest own) ∙ ap (λ (keys : List EndpointGroup). has endpoint_group_order keys own) (sym whole)
-      ∙ has-filter endpoint_group_order-exact (within endpoint) (map endpoint_group_of rows) own ∙ ap (λ (test : Bool). has endpoint_group_order (map endpoint_group_of rows) own && test) (in_range endpoint group)
-      ∙ both_by (has endpoint_group_order (map endpoint_group_of rows) own) ∙ has-pairs rows own in
-      ap (λ (test : Bool). cond test (filter_of own) None) (sym (both_or listed)) ∙ all_by listed (membership_in rows own) (is_fresh lifetime moment) (sym (both_or listed) ∙ all)
-    where
-      both_by : (test : Bool) → (test && true) ≡ test
-      both_by true = refl
-      both_by false = refl
-
-      both_or : (test : Bool) → (test || false) ≡ test
-      both_or true = refl
-      both_or false = refl
+      ap (λ (test : Bool). cond test (filter_of own) None) (sym (or_false listed))
+      ∙ all_by listed (membership_in rows own) (is_fresh lifetime moment) (seen_pair-all endpoint rows (map deref seen) rest group whole none)
 
 endpoints_tied : (one other : EndpointValue) → (endpoints.TheImpl.ghosts).eq one other ≡ same_endpoint one other
 endpoints_tied one other = search rules

@@ -1,0 +1,35 @@
+-- The filters of pairs after an entry of the log, as far as the entry may change them. No public contract
+-- says these words.
+use Rattle.std.specs.{Prelude.{◌≡◌, ℕ, Bool, false, true, not, ◌&&◌, List, [], ◌∷◌, Option, Some, None, if◌then◌else◌}, BTreeMap.{BTreeMap, get}, Option.{option_map, unwrap_or}}
+use Rattle.amt_values.specs.{Ascending.{has}}
+use Rattle.source_filter.specs.{Filter.{FilterValue}, declared.mode.Mode.{Mode, TheVariants.{Include, Exclude}}}
+use Rattle.endpoint_membership.specs.{EndpointGroup.{EndpointGroup, endpoint_group_order, same_group}, Filters.{group_member_order, member_of, pair_of}, Membership.{Membership, is_fresh}, MembershipChanges.{filter_at}, declared.{keys.GroupMember.{GroupMember}, membership_change.MembershipChange.{MembershipChange}}}
+
+-- a membership that was not renewed in time
+abbrev pub is_expired : ℕ → ℕ → Option Membership → Bool
+is_expired lifetime moment None = false
+is_expired lifetime moment (Some membership) = not (is_fresh lifetime moment membership)
+
+-- what an entry leaves at a pair, if it may change its filter
+abbrev pub left_at : BTreeMap GroupMember (Option FilterValue) → EndpointGroup → Option (Option FilterValue)
+left_at filters at = get group_member_order filters (member_of at)
+
+-- nothing is left at these pairs
+abbrev pub cleared_at : List EndpointGroup → EndpointGroup → Option (Option FilterValue) → Option (Option FilterValue)
+cleared_at pairs at before = if has endpoint_group_order pairs at then Some None else before
+
+-- the filter of a membership, as what is left at its pair
+abbrev pub left_of : Option Membership → Option (Option FilterValue)
+left_of found = option_map (λ membership. Some membership.filter) found
+
+-- for each pair: where something is left at it, that is its filter afterwards; where nothing is said of it,
+-- its filter is the same before and afterwards
+abbrev pub AreFiltersAfter : List Membership → List Membership → BTreeMap GroupMember (Option FilterValue) → Type 0
+AreFiltersAfter before after filters = (at : EndpointGroup) → unwrap_or (left_at filters at) (filter_at before at) ≡ filter_at after at
+
+-- the modes are one
+abbrev pub same_mode : Mode → Mode → Bool
+same_mode Include Include = true
+same_mode Exclude Exclude = true
+same_mode Include Exclude = false
+same_mode Exclude Include = false
