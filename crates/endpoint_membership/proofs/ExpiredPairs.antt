@@ -4,7 +4,7 @@ use Rattle.std.specs.{BTreeSet.{BTreeSet}, List.{AllByRecursion, Sorted.{IsStric
 use Rattle.std.specs.BTreeSet as sorted
 use Rattle.amt_values.{specs.Ascending.{has}, proofs.AscendingLaws.{has-filter}}
 use Rattle.endpoint_membership.specs.{EndpointGroup.{EndpointGroup, endpoint_group_order, same_endpoint_group}, FiltersAfter.{is_expired}, Membership.{Membership}, Memberships.{membership_in}, Parts.{is_renewed_at, is_stored, renewal_order}, declared.keys.LastRenewal.{LastRenewal}}
-use Rattle.endpoint_membership.proofs.{EndpointGroupOrder.{endpoint_group_order-total}, Expiry.{not_gt_first}, KeysTogether.{filter-none, sorted_back}, MembershipIn.{same_endpoint_group-exact}, PartOrders.{renewal_at, renewal_order-exact, renewal_order-total}}
+use Rattle.endpoint_membership.proofs.{EndpointGroupOrder.{endpoint_group_order-total}, Expiry.{not_gt_first}, KeysTogether.{filter-none, sorted_back}, MembershipIn.{filter_all, same_endpoint_group-exact}, PartOrders.{renewal_at, renewal_order-exact, renewal_order-total}}
 
 abbrev pub pairs_of : List LastRenewal → List EndpointGroup
 pairs_of renewals = map (λ renewal. renewal.at) renewals
@@ -25,10 +25,6 @@ has-renewal [] at there = cc
 has-renewal (first ∷ rest) at there =
     ⊎_elim (λ same. (first.renewed, or_left _ _ (subst (λ (pair : EndpointGroup). is_eq (renewal_order (renewal_at first.renewed pair) first) ≡ true) (sym (same_endpoint_group-exact at first.at same)) (ap is_eq (tied_itself renewal_order-total first)))))
     (λ later. let found = has-renewal rest at later in (found.0, or_right _ _ found.1)) (or_cases (same_endpoint_group at first.at) (has endpoint_group_order (pairs_of rest) at) there)
-
-all_pass : (test : LastRenewal → Bool) (renewals : List LastRenewal) → AllByRecursion (λ renewal. test renewal ≡ true) renewals → filter test renewals ≡ renewals
-all_pass test [] all = refl
-all_pass test (first ∷ rest) all = rw all.0 (ap (λ (others : List LastRenewal). first ∷ others) (all_pass test rest all.1))
 
 module _ (lifetime moment : ℕ) where
   -- the renewal was not in time
@@ -69,6 +65,6 @@ module _ (lifetime moment : ℕ) where
       → (at : EndpointGroup) → has endpoint_group_order (pairs_of seen) at ≡ is_expired lifetime moment (membership_in rows at)
   pairs_expired rows renewals seen rest renewed whole late early at =
       let kept : filter is_late renewals.keys ≡ seen = ap (filter is_late) whole ∙ filter-append is_late seen rest
-      ∙ ap (λ (more : List LastRenewal). filter is_late seen ++ more) (filter-none is_late rest early) ∙ append-nil (filter is_late seen) ∙ all_pass is_late seen late in
+      ∙ ap (λ (more : List LastRenewal). filter is_late seen ++ more) (filter-none is_late rest early) ∙ append-nil (filter is_late seen) ∙ filter_all is_late seen late in
       expired_by seen at (membership_in rows at) (λ moment. ap (λ (all : List LastRenewal). has renewal_order all (renewal_at moment at)) (sym kept)
       ∙ has-filter renewal_order-exact is_late renewals.keys (renewal_at moment at) ∙ ap (λ (there : Bool). there && is_late (renewal_at moment at)) (renewed (renewal_at moment at)))
