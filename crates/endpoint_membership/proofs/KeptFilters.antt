@@ -58,7 +58,7 @@ turned false true = refl
 turned false false = refl
 
 -- the members of two pairs are one where the pairs are
-same_member : (at other : EndpointGroup) → is_at (group_member_order (member_of at)) (member_of other) ≡ same_endpoint_group at other
+pub same_member : (at other : EndpointGroup) → is_at (group_member_order (member_of at)) (member_of other) ≡ same_endpoint_group at other
 same_member at other =
     sym (tied_then (ip_order at.group other.group) (endpoint_order at.endpoint other.endpoint)) ∙ turned (is_eq (ip_order at.group other.group)) (is_eq (endpoint_order at.endpoint other.endpoint))
     ∙ tied_then (endpoint_order at.endpoint other.endpoint) (ip_order at.group other.group)

@@ -1,6 +1,7 @@
 pub mod AdmittedRows
 pub mod AfterEntries
 pub mod AfterReport
+pub mod Changes
 pub mod Clearings
 pub mod CountedLive
 pub mod CountedParts

@@ -1,6 +1,6 @@
 -- The filters of pairs after an entry of the log, as far as the entry may change them. No public contract
 -- says these words.
-use Rattle.std.specs.{Prelude.{◌≡◌, ℕ, Bool, false, true, not, ◌&&◌, List, [], ◌∷◌, Option, Some, None, if◌then◌else◌}, BTreeMap.{BTreeMap, get}, Option.{option_map, unwrap_or}}
+use Rattle.std.specs.{Prelude.{◌≡◌, ℕ, Bool, false, true, not, ◌&&◌, List, [], ◌∷◌, Option, Some, None, if◌then◌else◌}, BTreeMap.{BTreeMap, get}, Cmp.Lexicographic.{pointwise}, Option.{option_map, unwrap_or}}
 use Rattle.amt_values.specs.{Ascending.{has}}
 use Rattle.source_filter.specs.{Filter.{FilterValue}, declared.mode.Mode.{Mode, TheVariants.{Include, Exclude}}}
 use Rattle.endpoint_membership.specs.{EndpointGroup.{EndpointGroup, endpoint_group_order, same_group}, Filters.{group_member_order, member_of, pair_of}, Membership.{Membership, is_fresh}, MembershipChanges.{filter_at}, declared.{keys.GroupMember.{GroupMember}, membership_change.MembershipChange.{MembershipChange}}}
@@ -33,3 +33,22 @@ same_mode Include Include = true
 same_mode Exclude Exclude = true
 same_mode Include Exclude = false
 same_mode Exclude Include = false
+
+-- the filters are one
+abbrev pub same_filter : FilterValue → FilterValue → Bool
+same_filter one other = same_mode one.mode other.mode && pointwise same_group one.sources other.sources
+
+-- the filters are one, or there is none
+abbrev pub same_filters : Option FilterValue → Option FilterValue → Bool
+same_filters None None = true
+same_filters None (Some other) = false
+same_filters (Some one) None = false
+same_filters (Some one) (Some other) = same_filter one other
+
+-- the member's filter before isn't the one afterwards
+abbrev pub is_changed : List Membership → GroupMember × Option FilterValue → Bool
+is_changed before entry = not (same_filters (filter_at before (pair_of entry.0)) entry.1)
+
+-- the change of the member's filter
+abbrev pub change_at : List Membership → GroupMember × Option FilterValue → MembershipChange
+change_at before entry = record { group = entry.0.group; endpoint = entry.0.endpoint; before = filter_at before (pair_of entry.0); after = entry.1 }
