@@ -10,6 +10,10 @@ abbrev pub is_expired : ℕ → ℕ → Option Membership → Bool
 is_expired lifetime moment None = false
 is_expired lifetime moment (Some membership) = not (is_fresh lifetime moment membership)
 
+-- what a moment leaves at the pair of the membership: nothing, where that was not renewed in time
+abbrev pub expired_left : ℕ → ℕ → Option Membership → Option (Option FilterValue)
+expired_left lifetime moment found = if is_expired lifetime moment found then Some None else None
+
 -- what an entry leaves at a pair, if it may change its filter
 abbrev pub left_at : BTreeMap GroupMember (Option FilterValue) → EndpointGroup → Option (Option FilterValue)
 left_at filters at = get group_member_order filters (member_of at)
