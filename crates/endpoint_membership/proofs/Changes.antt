@@ -1,9 +1,9 @@
 -- The changes that filters afterwards make.
-use Rattle.std.proofs.{Common.{◌≡◌, Bool, true, false, not, cond, ◌&&◌, List, [], ◌∷◌, map, filter, Option, Some, None, unwrap_or, get_or, refl, sym, ap, subst, ◌∙◌}, lemmas.{Bool.{not-false, not-true, or_parts, both_ways, Decides.{Decides-and, Decides-like}}, Cmp.{on_total, then_total, tied_itself}, List.Elements.{All-contains_itself, All-filter, All-map, filter_passes}, Map.{Keys.{sorted_head, sorted_tail}, Views.{btree_map_get_iff, tells_apart}}, Slice.Eq.{slice_eq-Decides}}}
-use Rattle.std.specs.{Bool.{Decides}, BTreeMap.{BTreeMap, IsOrdered, get, is_at}, Cmp.{IsTotalOrder, Lexicographic.{pointwise}}, List.{All, AllByRecursion, Contains, Sorted.{IsStrictlySortedBy}}, Map.{keys_of, lookup}, Ordering.{is_eq}, declared.cmp.Ordering.TheVariants.{Less}}
-use Rattle.amt_values.{specs.{declared.address.Ip.{Ip}, Order.{ip_order}, Ascending.{IsAscending, has}}, proofs.Orders.{endpoint_order-total, ip_order-exact, ip_order-total}}
+use Rattle.std.proofs.{Common.{◌≡◌, Bool, true, false, cond, List, [], ◌∷◌, map, filter, Option, Some, None, unwrap_or, get_or, refl, sym, ap, subst, ◌∙◌}, lemmas.{Bool.{not-false, not-true, or_parts, Decides.{Decides-and, Decides-like}}, Cmp.{on_total, then_total, tied_itself}, List.Elements.{All-contains_itself, All-filter, All-map, filter_passes}, Map.{Views.{btree_map_get_iff, tells_apart}}, Slice.Eq.{slice_eq-Decides}}}
+use Rattle.std.specs.{Bool.{Decides}, BTreeMap.{BTreeMap, IsOrdered, is_at}, Cmp.{IsTotalOrder, Lexicographic.{pointwise}}, List.{AllByRecursion, Contains, Sorted.{IsStrictlySortedBy}}, Map.{keys_of, lookup}, Ordering.{is_eq}, declared.cmp.Ordering.TheVariants.{Less}}
+use Rattle.amt_values.{specs.{declared.address.Ip.{Ip}, Ascending.{IsAscending}}, proofs.Orders.{endpoint_order-total, ip_order-exact, ip_order-total}}
 use Rattle.source_filter.specs.{Filter.{FilterValue}, declared.mode.Mode.{Mode, TheVariants.{Include, Exclude}}}
-use Rattle.endpoint_membership.specs.{EndpointGroup.{EndpointGroup, endpoint_group_order, same_endpoint_group, same_group}, Filters.{group_member_order, member_of, pair_of}, FiltersAfter.{AreFiltersAfter, change_at, is_changed, left_at, same_filter, same_filters, same_mode}, Membership.{Membership}, MembershipChanges.{AreChanges, IsChange, change_order, changed_pair, changes_pair, filter_at}, declared.{keys.GroupMember.{GroupMember}, membership_change.MembershipChange.{MembershipChange}}}
+use Rattle.endpoint_membership.specs.{EndpointGroup.{EndpointGroup, same_endpoint_group, same_group}, Filters.{group_member_order, member_of, pair_of}, FiltersAfter.{AreFiltersAfter, change_at, is_changed, same_filter, same_filters, same_mode}, Membership.{Membership}, MembershipChanges.{AreChanges, IsChange, change_order, changes_pair, filter_at}, declared.{keys.GroupMember.{GroupMember}, membership_change.MembershipChange.{MembershipChange}}}
 use Rattle.endpoint_membership.proofs.{GroupMembers.{group_member_order-exact}, KeptFilters.{same_member}, MembershipIn.{same_endpoint_group-exact}}
 
 -- an entry of the filters afterwards

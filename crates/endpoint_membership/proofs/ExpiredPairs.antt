@@ -1,6 +1,6 @@
 -- The pairs whose membership expires are those of the first renewals.
-use Rattle.std.proofs.{Common.{◌≡◌, ℕ, ◌+◌, ◌<◌, nat_lt, Bool, true, false, not, ◌&&◌, List, [], ◌∷◌, ◌++◌, map, filter, Option, Some, None, ⊎_elim, refl, sym, ap, subst, ◌∙◌, arith}, lemmas.{Bool.{and_from, and_parts, cases_Bool, eq-eqb, eqb-true, false_from_ne_true, or_cases, or_left, or_right, Decides.{nat_tests}}, Cmp.{tied_itself}, List.{append-nil, Elements.{filter-append}}, Map.{Keys.{le_from_not_gt, sorted_head}, Views.{tells_apart}}}}
-use Rattle.std.specs.{BTreeSet.{BTreeSet}, List.{AllByRecursion, Sorted.{IsStrictlySortedBy}}, Ordering.{is_eq, is_gt, nat_cmp}, declared.cmp.Ordering.{Ordering, TheVariants.{Less}}}
+use Rattle.std.proofs.{Common.{◌≡◌, ℕ, ◌+◌, nat_lt, Bool, true, false, not, ◌&&◌, List, [], ◌∷◌, ◌++◌, map, filter, Option, Some, None, ⊎_elim, refl, sym, ap, subst, ◌∙◌, arith}, lemmas.{Bool.{and_parts, cases_Bool, eq-eqb, eqb-true, false_from_ne_true, or_cases, or_left, or_right, Decides.{nat_tests}}, Cmp.{tied_itself}, List.{append-nil, Elements.{filter-append}}, Map.{Keys.{le_from_not_gt, sorted_head}, Views.{tells_apart}}}}
+use Rattle.std.specs.{BTreeSet.{BTreeSet}, List.{AllByRecursion, Sorted.{IsStrictlySortedBy}}, Ordering.{is_eq, is_gt, nat_cmp}, declared.cmp.Ordering.{TheVariants.{Less}}}
 use Rattle.std.specs.BTreeSet as sorted
 use Rattle.amt_values.{specs.Ascending.{has}, proofs.AscendingLaws.{has-filter}}
 use Rattle.endpoint_membership.specs.{EndpointGroup.{EndpointGroup, endpoint_group_order, same_endpoint_group}, FiltersAfter.{is_expired}, Membership.{Membership}, Memberships.{membership_in}, Parts.{is_renewed_at, is_stored, renewal_order}, declared.keys.LastRenewal.{LastRenewal}}

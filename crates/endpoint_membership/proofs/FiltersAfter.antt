@@ -1,6 +1,6 @@
 -- What is left at pairs after an entry of the log.
-use Rattle.std.proofs.{Common.{◌≡◌, ℕ, Bool, true, false, not, cond, if◌then◌else◌, List, [], ◌∷◌, filter, Option, Some, None, is_some, unwrap_or, refl, sym, ap, subst, ◌∙◌}, lemmas.Map.Keys.{sorted_head}}
-use Rattle.std.specs.{BTreeMap.{BTreeMap, get}, Option.{option_map, option_or}}
+use Rattle.std.proofs.{Common.{◌≡◌, ℕ, Bool, true, false, not, cond, if◌then◌else◌, List, ◌∷◌, filter, Option, Some, None, is_some, unwrap_or, refl, sym, ap, subst, ◌∙◌}, lemmas.Map.Keys.{sorted_head}}
+use Rattle.std.specs.{BTreeMap.{BTreeMap}, Option.{option_map, option_or}}
 use Rattle.amt_values.{specs.{declared.address.Ip.{Ip}, EndpointValue.{EndpointValue}, Ascending.{IsAscending, has}}, proofs.AscendingLaws.{IsAscending-filter}}
 use Rattle.source_filter.specs.{Filter.{FilterValue}, declared.record.Record.{Record}}
 use Rattle.endpoint_membership.specs.{EndpointGroup.{EndpointGroup, endpoint_group_order, same_endpoint, same_endpoint_group}, EndpointMemberships.{AreGone, AreOwn}, FiltersAfter.{AreFiltersAfter, cleared_at, expired_left, left_at, left_of}, Membership.{Membership, endpoint_group_of, is_fresh, membership_order}, Memberships.{membership_in}, MembershipChanges.{filter_at}, Stored.{is_of_another, only}, declared.keys.GroupMember.{GroupMember}}

@@ -1,6 +1,6 @@
 -- The filters of pairs after an entry of the log, as far as the entry may change them. No public contract
 -- says these words.
-use Rattle.std.specs.{Prelude.{◌≡◌, ℕ, Bool, false, true, not, ◌&&◌, List, [], ◌∷◌, Option, Some, None, if◌then◌else◌}, BTreeMap.{BTreeMap, get}, Cmp.Lexicographic.{pointwise}, Option.{option_map, unwrap_or}}
+use Rattle.std.specs.{Prelude.{◌≡◌, ℕ, Bool, false, true, not, ◌&&◌, List, Option, Some, None, if◌then◌else◌}, BTreeMap.{BTreeMap, get}, Cmp.Lexicographic.{pointwise}, Option.{option_map, unwrap_or}}
 use Rattle.amt_values.specs.{Ascending.{has}}
 use Rattle.source_filter.specs.{Filter.{FilterValue}, declared.mode.Mode.{Mode, TheVariants.{Include, Exclude}}}
 use Rattle.endpoint_membership.specs.{EndpointGroup.{EndpointGroup, endpoint_group_order, same_group}, Filters.{group_member_order, member_of, pair_of}, Membership.{Membership, is_fresh}, MembershipChanges.{filter_at}, declared.{keys.GroupMember.{GroupMember}, membership_change.MembershipChange.{MembershipChange}}}

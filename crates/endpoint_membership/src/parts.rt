@@ -18,7 +18,7 @@ use std::collections::{BTreeMap, BTreeSet};
 use std::marker::Model;
 
 mod change;
-mod changes;
+mod compared;
 mod expiry;
 pub mod live;
 mod own;

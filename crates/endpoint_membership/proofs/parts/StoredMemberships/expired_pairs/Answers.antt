@@ -1,7 +1,7 @@
-use Rattle.std.{proofs.{Common.{◌≡◌, false, not, List, ◌∷◌, ◌++◌, map, sym, ap, subst, ◌∙◌}, lemmas.Map.Iter.{rest_so_far}}, specs.{List.{AllByRecursion, Sorted.{IsStrictlySortedBy}}, Map.Iter.{deref}, declared.cmp.Ordering.{Ordering}}}
+use Rattle.std.{proofs.{Common.{◌≡◌, false, not, List, ◌++◌, map, sym, ap, subst, ◌∙◌}, lemmas.Map.Iter.{rest_so_far}}, specs.{List.{AllByRecursion}, Map.Iter.{deref}, declared.cmp.Ordering.{Ordering}}}
 use Rattle.std.specs.BTreeSet as sorted
 use Rattle.amt_values.specs.Ascending.{has}
-use Rattle.endpoint_membership.{specs.{EndpointGroup.{EndpointGroup, endpoint_group_order}, FiltersAfter.{is_expired}, Membership.{Membership}, Memberships.{membership_in}, Parts.{renewal_order}, declared.keys.LastRenewal.{LastRenewal}}, proofs.{ExpiredPairs.{is_late, none_late, pairs_expired}, PartOrders.{renewals_compared}, parts.StoredMemberships.expired_pairs.Goals.{in-None, in-Some+then-is_in_time}}}
+use Rattle.endpoint_membership.{specs.{EndpointGroup.{EndpointGroup, endpoint_group_order}, FiltersAfter.{is_expired}, Membership.{Membership}, Memberships.{membership_in}, declared.keys.LastRenewal.{LastRenewal}}, proofs.{ExpiredPairs.{is_late, none_late, pairs_expired}, PartOrders.{renewals_compared}, parts.StoredMemberships.expired_pairs.Goals.{in-None, in-Some+then-is_in_time}}}
 use Rattle.endpoint_membership.proofs.parts.StoredMemberships.expired_pairs.Goals as goal
 
 pub returns : goal.returns

@@ -1,4 +1,4 @@
-use Rattle.std.{proofs.Common.{◌≡◌, true, false, List, filter, map, ◌++◌, is_some, sym, ap, subst, ◌∙◌}, specs.Map.Iter.{deref}}
+use Rattle.std.{proofs.Common.{◌≡◌, true, false, List, map, ◌++◌, is_some, sym, ap, ◌∙◌}, specs.Map.Iter.{deref}}
 use Rattle.amt_values.specs.Ascending.{has}
 use Rattle.endpoint_membership.{specs.{EndpointGroup.{EndpointGroup, endpoint_group_order, same_endpoint}, Membership.{Membership, endpoint_group_of}, Memberships.{membership_in}}, proofs.{MembershipIn.{IsAscending-pairs}, OwnFilters.{none_past, pair, same_endpoint-ne, seen_pair-all, seen_pair-of, walked}, PartOrders.{pairs_compared}, parts.StoredMemberships.pairs_of.Goals.{in-None, in-Some+then-ne}}}
 use Rattle.endpoint_membership.proofs.parts.StoredMemberships.pairs_of.Goals as goal

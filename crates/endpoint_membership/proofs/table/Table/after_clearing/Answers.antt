@@ -1,7 +1,6 @@
-use Rattle.std.proofs.Common.{◌≡◌, max, true, is_some, refl, sym, ap, subst, ◌∙◌, List, Option, [], ◌∷◌, ◌++◌, filter}
-use Rattle.amt_values.specs.{declared.address.Ip.{Ip}, Ascending.{IsAscending, has}}
-use Rattle.source_filter.specs.Filter.{FilterValue}
-use Rattle.endpoint_membership.{specs.{EndpointGroup.{EndpointGroup, endpoint_group_order}, FiltersAfter.{AreFiltersAfter, cleared_at, left_at}, Membership.{Membership, is_fresh, membership_order}, Memberships.{membership_in}, Stored.{is_of_another}, Table.{TableValue}, declared.change.Change.TheVariants.{Clear}}, proofs.{FiltersAfter.{AreFiltersAfter-clear}, HoldsAfter.{Holds-clear, rows_now, table_of}}}
+use Rattle.std.proofs.Common.{max, is_some, refl, ap, subst, ◌∙◌, List, [], ◌∷◌, ◌++◌, filter}
+use Rattle.amt_values.specs.{Ascending.{IsAscending}}
+use Rattle.endpoint_membership.{specs.{EndpointGroup.{EndpointGroup}, FiltersAfter.{AreFiltersAfter, cleared_at, left_at}, Membership.{Membership, is_fresh, membership_order}, Memberships.{membership_in}, Stored.{is_of_another}, Table.{TableValue}, declared.change.Change.TheVariants.{Clear}}, proofs.{FiltersAfter.{AreFiltersAfter-clear}, HoldsAfter.{Holds-clear, rows_now, table_of}}}
 use Rattle.endpoint_membership.proofs.table.Table.after_clearing.Goals as goal
 
 pub returns : goal.returns

@@ -1,4 +1,4 @@
-use Rattle.std.proofs.{Common.{◌≡◌, max, refl, ap, subst, ◌∙◌, [], ◌∷◌, ◌++◌, filter}, lemmas.Result.{IfOk-weaker}}
+use Rattle.std.proofs.{Common.{max, refl, ap, subst, ◌∙◌, [], ◌∷◌, ◌++◌, filter}, lemmas.Result.{IfOk-weaker}}
 use Rattle.amt_values.specs.Ascending.{IsAscending}
 use Rattle.endpoint_membership.{specs.{FiltersAfter.{AreFiltersAfter}, Membership.{is_fresh, membership_order}, Table.{TableValue}, declared.change.Change.TheVariants.{Mark}}, proofs.{FiltersAfter.{AreFiltersAfter-mark}, HoldsAfter.{Holds-mark, rows_now, table_of}}}
 use Rattle.endpoint_membership.proofs.table.Table.after_mark.Goals as goal

@@ -1,4 +1,4 @@
-use Rattle.std.{proofs.Common.{◌≡◌, ℕ, ◌<◌, max, ap, subst, ◌∙◌, List}, specs.Option.{option_or}}
+use Rattle.std.{proofs.Common.{◌<◌, max, ap, subst, ◌∙◌, List}, specs.Option.{option_or}}
 use Rattle.amt_values.specs.Ascending.{IsAscending}
 use Rattle.endpoint_membership.{specs.{EndpointGroup.{EndpointGroup}, FiltersAfter.{cleared_at, left_at, left_of}, Membership.{membership_order}, Memberships.{membership_in}, Table.{TableValue, memberships_with}}, proofs.{FiltersAfter.{AreFiltersAfter-report}, HoldsAfter.{AreAfterReport-table}}}
 use Rattle.endpoint_membership.proofs.table.Table.after_report.Goals as goal
