@@ -23,9 +23,6 @@ same_mode-decides Exclude Include = (λ is. cc, λ is. cc)
 same_group-decides : (one other : Ip) → Decides (same_group one other) (one ≡ other)
 same_group-decides one other = (tells_apart ip_order-exact one other, λ is. subst (λ (next : Ip). same_group one next ≡ true) is (ap is_eq (tied_itself ip_order-total one)))
 
-filter_of : Mode → List Ip → FilterValue
-filter_of mode sources = record { mode = mode; sources = sources }
-
 same_filter-decides : (one other : FilterValue) → Decides (same_filter one other) (one ≡ other)
 same_filter-decides one other =
     Decides-like (same_filter one other) (λ both. ap (λ (mode : Mode). record one { mode = mode }) both.0 ∙ ap (λ (sources : List Ip). record other { sources = sources }) both.1)

@@ -1,7 +1,7 @@
-//! What changes at pairs.
+//! Filters afterwards, compared with those that are stored.
 
-ghost use Rattle.std.specs.{Prelude.{◌≡◌, List, map, IfOk}, List.{filter}};
-ghost use Rattle.endpoint_membership.specs.{FiltersAfter.{AreFiltersAfter, change_at, is_changed, same_filter, same_filters}, Membership.{Membership}, MembershipChanges.{AreChanges, filter_at}, Filters.{pair_of}};
+ghost use Rattle.std.specs.Prelude.{◌≡◌, List, IfOk};
+ghost use Rattle.endpoint_membership.specs.{FiltersAfter.{AreFiltersAfter, change_at, is_changed, same_filter}, Membership.{Membership}, MembershipChanges.{AreChanges}};
 
 use super::StoredMemberships;
 use crate::filters_after::FiltersAfter;
@@ -17,7 +17,7 @@ fn is_same(one: &Filter, other: &Filter) -> bool
 }
 
 impl StoredMemberships {
-    // Whether the member's filter is another one than it is afterwards.
+    // Whether the member's filter isn't the one afterwards.
     fn is_changed(&self, member: &GroupMember, after: &Option<Filter>) -> bool
         ensures { result ≡ is_changed self.now (member.now, after.now) }
     {
@@ -49,7 +49,7 @@ impl StoredMemberships {
         })
     }
 
-    /// What changes where these are the filters afterwards: where a filter is what it was before, nothing.
+    /// The changes that these filters afterwards make: none where a filter is what it was before.
     pub fn changes_to(
         &self,
         alloc: Global,
