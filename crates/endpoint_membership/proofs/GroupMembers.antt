@@ -66,7 +66,7 @@ unfolding IsStrictlySortedBy
 IsAscending-endpoints group [] all ascends = tt
 IsAscending-endpoints group (member ∷ rest) all ascends = (less_each group member rest all.0 all.1 ascends.0, IsAscending-endpoints group rest all.1 ascends.1)
 
-group_member_order-exact : CmpEqualImpliesEq group_member_order
+pub group_member_order-exact : CmpEqualImpliesEq group_member_order
 group_member_order-exact one other same =
     let both = both_tied (ip_order one.group other.group) (endpoint_order one.endpoint other.endpoint) same in
     ap (λ (group : Ip). made group one.endpoint) (ip_order-exact one.group other.group both.0)

@@ -110,10 +110,9 @@ module _ (settings : TableSettings) (table : TableValue) (log : List Change) (en
       (let turned = latest-reverse log in omega arith) holds.rows (by_log (λ (lifetime later : ℕ). AreOwn lifetime later endpoint records table.rows own) owned) rows
       (by_log (λ (lifetime later : ℕ). AreAfterReport lifetime later endpoint table.rows own rows) put))
 
-  -- the limit that a report passes is found by the memberships of its endpoint
-  pub passed_is : (limits : Limits) → IsAscending membership_order table.rows → limit_passed (record settings { limits = limits }) log endpoint records at
-      ≡ limit_by_own table.lifetime moment limits endpoint records table.rows (group_count endpoint (filter (is_fresh table.lifetime moment) table.rows)) own
-  passed_is limits ascends =
+  -- the memberships by the log with the report are those that it leaves
+  AreAfterReport-now : AreAfterReport settings.lifetime last endpoint table.rows own (memberships_with settings log endpoint records at)
+  AreAfterReport-now =
       let entry = Reported endpoint records at in
       let rows = memberships_with settings log endpoint records at in
       let later = latest-push log entry in
@@ -121,12 +120,25 @@ module _ (settings : TableSettings) (table : TableValue) (log : List Change) (en
       let whole : latest (log ++ entry ∷ []) ≡ last = omega arith in
       let stand = subst (λ (past : List Change). AreMembershipsAt settings.lifetime last past rows) (reverse-push log entry)
       (subst (λ (moment : ℕ). AreMembershipsAt settings.lifetime moment (reverse (log ++ entry ∷ [])) rows) whole (AreMembershipsAt-memberships_at settings.lifetime (latest (log ++ entry ∷ [])) (log ++ entry ∷ []))) in
-      let put = AreAfterReport-log settings.lifetime (latest log) at endpoint records (reverse log) table.rows own (subst (λ (lifetime : ℕ). 0 < lifetime) holds.lifetime some) (omega arith) holds.rows
-      (by_log (λ (lifetime later : ℕ). AreOwn lifetime later endpoint records table.rows own) owned) rows stand in
+      AreAfterReport-log settings.lifetime (latest log) at endpoint records (reverse log) table.rows own (subst (λ (lifetime : ℕ). 0 < lifetime) holds.lifetime some) (omega arith) holds.rows
+      (by_log (λ (lifetime later : ℕ). AreOwn lifetime later endpoint records table.rows own) owned) rows stand
+
+  -- the same by the table's lifetime and its moment
+  pub AreAfterReport-table : AreAfterReport table.lifetime moment endpoint table.rows own (memberships_with settings log endpoint records at)
+  AreAfterReport-table =
+      let after = memberships_with settings log endpoint records at in
+      subst (λ (lifetime : ℕ). AreAfterReport lifetime moment endpoint table.rows own after) (sym holds.lifetime)
+      (subst (λ (later : ℕ). AreAfterReport settings.lifetime later endpoint table.rows own after) (sym last_is) AreAfterReport-now)
+
+  -- the limit that a report passes is found by the memberships of its endpoint
+  pub passed_is : (limits : Limits) → IsAscending membership_order table.rows → limit_passed (record settings { limits = limits }) log endpoint records at
+      ≡ limit_by_own table.lifetime moment limits endpoint records table.rows (group_count endpoint (filter (is_fresh table.lifetime moment) table.rows)) own
+  passed_is limits ascends =
+      let rows = memberships_with settings log endpoint records at in
       let by : ℕ → ℕ → Option LimitFault = λ lifetime later. limit_by_own lifetime later limits endpoint records table.rows (group_count endpoint (filter (is_fresh lifetime later) table.rows)) own in
       ap (λ (without : List Membership). first_limit limits endpoint records without rows)
       (sym (by_log (λ (lifetime later : ℕ). filter (is_fresh lifetime later) table.rows ≡ memberships_without settings log at) (fresh_are settings table log at moment is holds)))
-      ∙ first_limit_is settings.lifetime last limits endpoint records table.rows own rows ascends owned.ascends owned.of put
+      ∙ first_limit_is settings.lifetime last limits endpoint records table.rows own rows ascends owned.ascends owned.of AreAfterReport-now
       ∙ sym (by_log (λ (lifetime later : ℕ). by table.lifetime moment ≡ by lifetime later) refl)
 
 -- what a table keeps within its limits is within them by the log

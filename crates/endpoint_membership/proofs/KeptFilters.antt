@@ -9,8 +9,8 @@ use Rattle.endpoint_membership.{specs.declared.{keys.GroupMember.{GroupMember}, 
 abbrev Kept : Type 0
 Kept = BTreeMap GroupMember StoredFilter
 
--- the filter of the pair among those by group
-abbrev filter_at : Kept → EndpointGroup → Option StoredFilter
+-- what the pair has among what is kept by group
+abbrev filter_at : {V : Type 0} → BTreeMap GroupMember V → EndpointGroup → Option V
 filter_at kept at = get group_member_order kept (member_of at)
 
 its_by : (at : EndpointGroup) (found : Option StoredFilter) (membership : Membership) → membership_with at found ≡ Some membership → endpoint_group_of membership ≡ at
@@ -58,17 +58,17 @@ turned false true = refl
 turned false false = refl
 
 -- the members of two pairs are one where the pairs are
-same_member : (at other : EndpointGroup) → is_at (group_member_order (member_of at)) (member_of other) ≡ same_endpoint_group at other
+pub same_member : (at other : EndpointGroup) → is_at (group_member_order (member_of at)) (member_of other) ≡ same_endpoint_group at other
 same_member at other =
     sym (tied_then (ip_order at.group other.group) (endpoint_order at.endpoint other.endpoint)) ∙ turned (is_eq (ip_order at.group other.group)) (is_eq (endpoint_order at.endpoint other.endpoint))
     ∙ tied_then (endpoint_order at.endpoint other.endpoint) (ip_order at.group other.group)
 
 -- the pair has this filter now, or none, and the others have what they had
-abbrev pub IsSet : Kept → Kept → EndpointGroup → Option StoredFilter → Type 0
+abbrev pub IsSet : {V : Type 0} → BTreeMap GroupMember V → BTreeMap GroupMember V → EndpointGroup → Option V → Type 0
 IsSet before after at now = (other : EndpointGroup) → filter_at after other ≡ cond (same_endpoint_group at other) now (filter_at before other)
 
 -- a change of a map by group, by pairs
-pub IsSet-updated : (order : GroupMember → GroupMember → Ordering) (before after : Kept) (at : EndpointGroup) (member : GroupMember) (now : Option StoredFilter) → order ≡ group_member_order → member ≡ member_of at
+pub IsSet-updated : {V : Type 0} (order : GroupMember → GroupMember → Ordering) (before after : BTreeMap GroupMember V) (at : EndpointGroup) (member : GroupMember) (now : Option V) → order ≡ group_member_order → member ≡ member_of at
     → ((other : GroupMember) → get order after other ≡ cond (is_at (order member) other) now (get order before other)) → IsSet before after at now
 IsSet-updated order before after at member now same is updated other =
     subst (λ (by : GroupMember → GroupMember → Ordering). get by after (member_of other) ≡ cond (is_at (by member) (member_of other)) now (get by before (member_of other))) same (updated (member_of other))

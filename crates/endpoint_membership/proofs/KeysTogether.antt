@@ -34,7 +34,7 @@ pub all_back : {K : Type 0} (P : K → Type 0) (xs ys : List K) → AllByRecursi
 all_back P [] ys all = all
 all_back P (x ∷ xs) ys all = all_back P xs ys all.1
 
-sorted_back : {K : Type 0} (order : K → K → Ordering) (xs ys : List K) → IsStrictlySortedBy order (xs ++ ys) → IsStrictlySortedBy order ys
+pub sorted_back : {K : Type 0} (order : K → K → Ordering) (xs ys : List K) → IsStrictlySortedBy order (xs ++ ys) → IsStrictlySortedBy order ys
 sorted_back order [] ys sorted = sorted
 sorted_back order (x ∷ xs) ys sorted = sorted_back order xs ys (sorted_tail order x (xs ++ ys) sorted)
 

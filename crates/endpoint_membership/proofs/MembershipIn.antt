@@ -174,6 +174,6 @@ all_where test rows ascends none =
     (λ at. membership_in-where test rows at ascends ∙ cond_by (test at) (membership_in rows at) None (membership_in rows at) (λ passes. refl) (λ fails. sym (none at fails)))
 
 -- a filter that all pass keeps all
-pub filter_all : (test : Membership → Bool) (rows : List Membership) → AllByRecursion (λ membership. test membership ≡ true) rows → filter test rows ≡ rows
+pub filter_all : {K : Type 0} (test : K → Bool) (xs : List K) → AllByRecursion (λ x. test x ≡ true) xs → filter test xs ≡ xs
 filter_all test [] each = refl
-filter_all test (membership ∷ rest) each = rw each.0 (ap (λ (more : List Membership). membership ∷ more) (filter_all test rest each.1))
+filter_all test (x ∷ xs) each = rw each.0 (ap (λ more. x ∷ more) (filter_all test xs each.1))

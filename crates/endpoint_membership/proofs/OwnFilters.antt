@@ -1,11 +1,11 @@
 -- The filters of an endpoint's memberships, by the pairs in its range.
-use Rattle.std.proofs.{Common.{◌≡◌, ℕ, Bor, Bool, true, false, not, cond, ◌&&◌, ◌||◌, List, [], ◌∷◌, ◌++◌, map, filter, Option, Some, None, is_some, refl, sym, ap, ◌∙◌, rules}, lemmas.{Bool.{and_left, or_from}, Cmp.{tied_itself}, List.{map-append}, Map.{Iter.{rest_so_far}, Views.{tells_apart}}}}
+use Rattle.std.proofs.{Common.{◌≡◌, ℕ, Bor, Bool, true, false, not, cond, ◌&&◌, ◌||◌, List, [], ◌∷◌, ◌++◌, map, filter, Option, Some, None, is_some, refl, sym, ap, ◌∙◌, rules}, lemmas.{Bool.{and_left, and_parts, or_from}, Cmp.{tied_itself}, List.{map-append}, Map.{Iter.{rest_so_far}, Views.{tells_apart}}}}
 use Rattle.std.specs.{BTreeMap.Range.{range_contains}, BTreeSet.{BTreeSet, keys_between}, Iterator.{Yields}, List.{AllByRecursion, Sorted.{IsStrictlySortedBy}}, Map.Iter.{TakesFirst, deref}, Ordering.{is_eq, is_le}, declared.{cmp.Ordering.{Ordering}, ops.Bound.TheVariants.{Included, Unbounded}}}
 use Rattle.amt_values.{specs.{declared.address.Ip.{Ip, TheVariants.{V4, V6}}, Order.{endpoint_order, ip_order}, EndpointValue.{EndpointValue}, Ascending.{has}}, proofs.{Orders.{endpoint_order-total, ip_order-exact}, AscendingLaws.{has-append, has-filter}}}
 use Rattle.amt_values.specs.contracts.endpoint.EndpointPartialEq as endpoints
 use Rattle.endpoint_membership.specs.{EndpointGroup.{EndpointGroup, endpoint_group_order, same_endpoint, same_endpoint_group, same_group}, Filters.{stored_membership}, EndpointMemberships.{renewed_filter_of}, Membership.{Membership, endpoint_group_of, is_fresh}}
 use Rattle.endpoint_membership.{specs.{Memberships.{membership_in}, Stored.{only}, declared.{after_report.RenewedFilter.{RenewedFilter}, stored.StoredFilter.{StoredFilter}}}, proofs.{AfterEntries.{same_back, same_endpoint-exact}, EndpointGroupOrder.{endpoint_group_order-exact, same_endpoint_group-is}}}
-use Rattle.endpoint_membership.proofs.{FilterMap.{same_group-back}, KeysTogether.{in_range-shares, least_number, others, same-ne}, MembershipIn.{has-pairs}}
+use Rattle.endpoint_membership.proofs.{FilterMap.{same_group-back}, KeysTogether.{in_range-shares, least_number, others, same-ne}, MembershipIn.{filter_all, has-pairs}}
 
 abbrev pub pair : EndpointValue → Ip → EndpointGroup
 pair endpoint group = record { endpoint = endpoint; group = group }
@@ -64,6 +64,32 @@ stored_by : (fresh : Bool) (membership : Membership) → renewed_filter_of (cond
 stored_by true membership = refl
 stored_by false membership = refl
 
+and_true : (test : Bool) → (test && true) ≡ test
+and_true true = refl
+and_true false = refl
+
+or_false : (test : Bool) → (test || false) ≡ test
+or_false true = refl
+or_false false = refl
+
+-- a pair that was seen is of the endpoint where all are
+pub seen_pair-of : (endpoint : EndpointValue) (seen : List EndpointGroup) (at : EndpointGroup) → AllByRecursion (λ pair. same_endpoint pair.endpoint endpoint ≡ true) seen → has endpoint_group_order seen at ≡ true
+    → same_endpoint at.endpoint endpoint ≡ true
+seen_pair-of endpoint seen at all there =
+    let its = λ (pair : EndpointGroup). same_endpoint pair.endpoint endpoint in
+    (and_parts (has endpoint_group_order seen at) (its at) (sym (has-filter endpoint_group_order-exact its seen at) ∙ ap (λ (pairs : List EndpointGroup). has endpoint_group_order pairs at) (filter_all its seen all) ∙ there)).1
+
+-- where no pair of the endpoint is left, those are seen that have a membership
+pub seen_pair-all : (endpoint : EndpointValue) (rows : List Membership) (seen rest : List EndpointGroup) (group : Ip) → filter (within endpoint) (map endpoint_group_of rows) ≡ seen ++ rest
+    → has endpoint_group_order rest (pair endpoint group) ≡ false → has endpoint_group_order seen (pair endpoint group) ≡ is_some (membership_in rows (pair endpoint group))
+seen_pair-all endpoint rows seen rest group whole none =
+    let own = pair endpoint group in
+    let listed = has endpoint_group_order seen own in
+    let all = has endpoint_group_order (map endpoint_group_of rows) own in
+    sym (or_false listed) ∙ ap (λ (test : Bool). listed || test) (sym none)
+    ∙ sym (has-append endpoint_group_order seen rest own) ∙ ap (λ (keys : List EndpointGroup). has endpoint_group_order keys own) (sym whole)
+    ∙ has-filter endpoint_group_order-exact (within endpoint) (map endpoint_group_of rows) own ∙ ap (λ (test : Bool). all && test) (in_range endpoint group) ∙ and_true all ∙ has-pairs rows own
+
 module _ (lifetime moment : ℕ) (endpoint : EndpointValue) (rows : List Membership) where
   -- what a table has of the pair
   abbrev pub filter_of : EndpointGroup → Option RenewedFilter
@@ -109,19 +135,8 @@ module _ (lifetime moment : ℕ) (endpoint : EndpointValue) (rows : List Members
   seen_filter-all seen rest group whole none =
       let own = pair endpoint group in
       let listed = has endpoint_group_order (map deref seen) own in
-      let all : (listed || false) ≡ is_some (membership_in rows own) = ap (λ (test : Bool). listed || test) (sym none)
-      ∙ sym (has-append endpoint_group_order (map deref seen) rest own) ∙ ap (λ (keys : List EndpointGroup). has endpoint_group_order keys own) (sym whole)
-      ∙ has-filter endpoint_group_order-exact (within endpoint) (map endpoint_group_of rows) own ∙ ap (λ (test : Bool). has endpoint_group_order (map endpoint_group_of rows) own && test) (in_range endpoint group)
-      ∙ both_by (has endpoint_group_order (map endpoint_group_of rows) own) ∙ has-pairs rows own in
-      ap (λ (test : Bool). cond test (filter_of own) None) (sym (both_or listed)) ∙ all_by listed (membership_in rows own) (is_fresh lifetime moment) (sym (both_or listed) ∙ all)
-    where
-      both_by : (test : Bool) → (test && true) ≡ test
-      both_by true = refl
-      both_by false = refl
-
-      both_or : (test : Bool) → (test || false) ≡ test
-      both_or true = refl
-      both_or false = refl
+      ap (λ (test : Bool). cond test (filter_of own) None) (sym (or_false listed))
+      ∙ all_by listed (membership_in rows own) (is_fresh lifetime moment) (seen_pair-all endpoint rows (map deref seen) rest group whole none)
 
 endpoints_tied : (one other : EndpointValue) → (endpoints.TheImpl.ghosts).eq one other ≡ same_endpoint one other
 endpoints_tied one other = search rules

@@ -148,19 +148,24 @@ others_stay membership rest before after at old set stays =
     let both = elsewhere (same_endpoint_group at (endpoint_group_of membership)) membership (membership_in rest at) stays.0 in
     (both.1, set.each at ∙ ap (λ (here : Bool). cond here (Some membership) (membership_in before at)) (same_back (endpoint_group_of membership) at ∙ both.0) ∙ stays.1)
 
-removed_by : (earlier here : Bool) (old : Option Membership) → cond here None (cond earlier None old) ≡ cond (earlier || (here || false)) None old
-removed_by true true old = refl
-removed_by true false old = refl
-removed_by false true old = refl
-removed_by false false old = refl
+set_by : {X : Type 0} (earlier here : Bool) (now old : X) → cond here now (cond earlier now old) ≡ cond (earlier || (here || false)) now old
+set_by true true now old = refl
+set_by true false now old = refl
+set_by false true now old = refl
+set_by false false now old = refl
+
+-- what several pairs have, one pair more has
+pub one_more_set : {X : Type 0} (done : List EndpointGroup) (key at : EndpointGroup) (now old : X)
+    → (if same_endpoint_group key at then now else (if has endpoint_group_order done at then now else old)) ≡ (if has endpoint_group_order (done ++ key ∷ []) at then now else old)
+one_more_set done key at now old =
+    ap (λ (here : Bool). cond here now (cond (has endpoint_group_order done at) now old)) (same_back key at)
+    ∙ set_by (has endpoint_group_order done at) (same_endpoint_group at key) now old
+    ∙ ap (λ (test : Bool). cond test now old) (sym (list_any-append (same_endpoint_group at) done (key ∷ [])))
 
 -- one of several pairs more has none
 pub one_more_removed : (done : List EndpointGroup) (key at : EndpointGroup) (old : Option Membership)
     → (if same_endpoint_group key at then None else (if has endpoint_group_order done at then None else old)) ≡ (if has endpoint_group_order (done ++ key ∷ []) at then None else old)
-one_more_removed done key at old =
-    ap (λ (here : Bool). cond here None (cond (has endpoint_group_order done at) None old)) (same_back key at)
-    ∙ removed_by (has endpoint_group_order done at) (same_endpoint_group at key) old
-    ∙ ap (λ (test : Bool). cond test None old) (sym (list_any-append (same_endpoint_group at) done (key ∷ [])))
+one_more_removed done key at old = one_more_set done key at None old
 
 not_known : (found : Option Membership) → not (is_some found) ≡ true → found ≡ None
 not_known None is = refl

@@ -4,6 +4,7 @@ pub mod Effective
 pub mod EndpointGroup
 pub mod EndpointMemberships
 pub mod Filters
+pub mod FiltersAfter
 pub mod GroupFilter
 pub mod Limits
 pub mod Log

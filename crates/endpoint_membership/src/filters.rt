@@ -31,7 +31,7 @@ impl Model for StoredFilters {
     ghost invariant = { λ s. HaveSamePairs s.by_group s.pairs };
 }
 
-fn member_of(at: &EndpointGroup) -> GroupMember
+pub fn member_of(at: &EndpointGroup) -> GroupMember
     ensures { result ≡ member_of at.now }
 {
     GroupMember {

@@ -10,6 +10,7 @@ mod after_report;
 mod change;
 mod effective;
 mod filters;
+mod filters_after;
 mod first_limit;
 mod keys;
 mod laws;

@@ -18,6 +18,7 @@ use std::collections::{BTreeMap, BTreeSet};
 use std::marker::Model;
 
 mod change;
+mod compared;
 mod expiry;
 pub mod live;
 mod own;
@@ -25,6 +26,7 @@ mod renew;
 mod replace;
 mod shown;
 mod targets;
+mod touched;
 
 /// The memberships of a table, by endpoint and then by group.
 ///
