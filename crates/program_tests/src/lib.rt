@@ -25,3 +25,5 @@ mod scripts;
 mod settings;
 #[cfg(test)]
 mod socket_lines;
+#[cfg(test)]
+mod upstream;
