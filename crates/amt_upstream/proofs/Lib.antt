@@ -1,0 +1,3 @@
+pub mod ChangedGroups
+pub mod GroupFilters
+pub mod Narrowed
