@@ -1,1 +1,4 @@
+pub mod JoinedByNumbers
 pub mod MovedKeys
+pub mod NumbersAfter
+pub mod WantedBySome

@@ -123,8 +123,8 @@ module _ (of : EndpointGroup → Option FilterValue → ℕ) (none : (at : Endpo
       let at = endpoint_group_of first in
       let here = ap (of at) (sym (filter_at-first first rest) ∙ same at) in
       let later = same_sum rest (others at after) (sorted_tail membership_order first rest one) (others-ascend after at two)
-          (λ other. later_by (same_endpoint_group at other) (same_endpoint_group other at) first (membership_in rest other) (same_back at other) (none_later first rest other one)
-          ∙ ap (cond (same_endpoint_group at other) None) (same other) ∙ sym (filter_at-others after at other two)) in
+      (λ other. later_by (same_endpoint_group at other) (same_endpoint_group other at) first (membership_in rest other) (same_back at other) (none_later first rest other one)
+      ∙ ap (cond (same_endpoint_group at other) None) (same other) ∙ sym (filter_at-others after at other two)) in
       let whole = sum_split after at two in
       let more = sum_by-cons of_row first rest in
       omega arith

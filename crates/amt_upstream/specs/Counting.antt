@@ -1,8 +1,8 @@
 -- How memberships are counted. No public contract says these words.
-use Rattle.std.specs.{Prelude.{◌≡◌, ℕ, ◌+◌, ◌*◌, ◌≤◌, zero, suc, Bool, false, List, [], ◌∷◌, map, Option, Some, None}, BTreeMap.{BTreeMap, get}, List.{count_by, flat_map, AllByRecursion}, Option.{unwrap_or}, Ordering.{eq_by_cmp, nat_cmp, on, then_cmp}, declared.cmp.Ordering.{Ordering, TheVariants.{Less, Equal, Greater}}}
+use Rattle.std.specs.{Prelude.{◌≡◌, ℕ, ◌+◌, ◌*◌, ◌≤◌, zero, suc, Bool, false, List, [], ◌∷◌, ◌++◌, map, Option, Some, None}, BTreeMap.{BTreeMap, get}, List.{count_by, flat_map, AllByRecursion}, Option.{unwrap_or}, Ordering.{eq_by_cmp, nat_cmp, on, then_cmp}, declared.cmp.Ordering.{Ordering, TheVariants.{Less, Equal, Greater}}}
 use Rattle.amt_values.specs.{declared.address.Ip.{Ip}, Order.{endpoint_order, ip_order}, EndpointValue.{EndpointValue}, Ascending.{IsAscending, has}}
 use Rattle.source_filter.specs.{Filter.{FilterValue}, declared.mode.Mode.{Mode, TheVariants.{Include, Exclude}}}
-use Rattle.endpoint_membership.specs.{Membership.{Membership}, Table.{AreLawful, IsWithinLimits, TableValue}, declared.membership_change.MembershipChange.{MembershipChange}}
+use Rattle.endpoint_membership.specs.{Membership.{Membership, membership_order}, MembershipChanges.{AreChanges}, Table.{AreLawful, ForLog, IsWithinLimits, TableValue, memberships_now}, declared.{change.Change.{Change}, membership_change.MembershipChange.{MembershipChange}}}
 use Rattle.amt_upstream.specs.declared.count_key.{CountKey.{CountKey}, Counted.{Counted, TheVariants.{Excluders, Excluder, Excluding, Including}}}
 
 -- in this order the kinds of counts stand
@@ -107,10 +107,19 @@ AreNumbers rows tally = (key : CountKey) → number tally key ≡ times key (key
 abbrev pub ForRows : Numbers → (List Membership → Type 0) → Type 0
 ForRows tally Fact = (rows : List Membership) → AreNumbers rows tally → AreInOrder rows → Fact rows
 
+-- by every log that the table stands for, these are the changes that the entry makes
+abbrev pub AreChangesBy : TableValue → Change → List MembershipChange → Type 0
+AreChangesBy table entry changes = ForLog table (λ settings log. AreChanges (memberships_now settings log) (memberships_now settings (log ++ entry ∷ [])) changes)
+
+-- and the numbers are those of the memberships with the entry
+abbrev pub AreNumbersAfter : TableValue → Change → Numbers → Type 0
+AreNumbersAfter table entry tally = ForLog table (λ settings log. AreNumbers (memberships_now settings (log ++ entry ∷ [])) tally)
+
 -- The numbers beside a table are those of its memberships, no kept one is 0, and the limits bound them.
 pub record IsCounted (table : TableValue) (tally : Numbers) : Type 0 where
   pub numbers : AreNumbers table.rows tally
   pub clean : IsClean tally
+  pub ascend : IsAscending membership_order table.rows
   pub in_order : AreInOrder table.rows
   pub within : IsWithinLimits table
   pub lawful : AreLawful table.limits table.lifetime
