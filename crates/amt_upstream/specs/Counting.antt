@@ -1,5 +1,5 @@
 -- How memberships are counted. No public contract says these words.
-use Rattle.std.specs.{Prelude.{◌≡◌, ℕ, ◌+◌, ◌*◌, ◌≤◌, zero, suc, Bool, false, List, [], ◌∷◌, map, Option, Some, None}, BTreeMap.{BTreeMap, get}, List.{count_by, flat_map, AllByRecursion}, Option.{unwrap_or}, Ordering.{eq_by_cmp, nat_cmp, on, then_cmp}, declared.cmp.Ordering.{Ordering, TheVariants.{Less, Equal, Greater}}}
+use Rattle.std.specs.{Prelude.{◌≡◌, ℕ, ◌+◌, ◌*◌, ◌≤◌, zero, suc, Bool, false, List, [], ◌∷◌, map, Option, Some, None}, BTreeMap.{BTreeMap, get}, List.{count_by, flat_map, AllByRecursion}, Option.{unwrap_or}, Ordering.{eq_by_cmp, nat_cmp, on, then_cmp}, declared.cmp.Ordering.{Ordering, TheVariants.{Equal}}}
 use Rattle.amt_values.specs.{declared.address.Ip.{Ip}, Order.{endpoint_order, ip_order}, EndpointValue.{EndpointValue}, Ascending.{IsAscending, has}}
 use Rattle.source_filter.specs.{Filter.{FilterValue}, declared.mode.Mode.{Mode, TheVariants.{Include, Exclude}}}
 use Rattle.endpoint_membership.specs.{Membership.{Membership}, Table.{AreLawful, IsWithinLimits, TableValue}, declared.membership_change.MembershipChange.{MembershipChange}}
