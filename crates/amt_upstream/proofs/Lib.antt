@@ -1,1 +1,2 @@
+pub mod CountedKeys
 pub mod KeyOrder
