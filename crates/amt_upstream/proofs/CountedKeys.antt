@@ -1,5 +1,5 @@
 -- What a step makes of the numbers, and what steps make of them together.
-use Rattle.std.{proofs.{Common.{◌≡◌, ℕ, zero, suc, ◌+◌, ◌-◌, ◌<◌, ◌≤◌, Bool, true, false, cond, ◌||◌, List, [], ◌∷◌, ◌++◌, length, get_or, take, Option, None, Some, is_some, refl, sym, ap, subst, ◌∙◌, arith, add-zero, zero-add}, lemmas.{Cmp.{eq_by_cmp_equiv}, List.{take_more, Folds.{list_any-append}, Sums.{sum_by-append, sum_by-cons}}}}, specs.{BTreeMap.{Updates, get}, Option.{unwrap_or}, Ordering.{eq_by_cmp}, declared.cmp.Ordering.{Ordering}}}
+use Rattle.std.{proofs.{Common.{◌≡◌, ℕ, zero, suc, ◌+◌, ◌-◌, ◌<◌, ◌≤◌, Bool, true, false, cond, ◌||◌, List, [], ◌∷◌, ◌++◌, length, get_or, take, Option, None, Some, is_some, refl, sym, ap, subst, ◌∙◌, arith, add-zero, zero-add}, lemmas.{Cmp.{eq_by_cmp_equiv}, List.{length-take-le, take_more, Folds.{list_any-append, list_any_at}, Sums.{count_by-le-length, sum_by-append, sum_by-cons}}}}, specs.{BTreeMap.{Updates, get}, Option.{unwrap_or}, Ordering.{eq_by_cmp}, declared.cmp.Ordering.{Ordering}}}
 use Rattle.amt_values.specs.Ascending.{has}
 use Rattle.amt_upstream.{specs.{Counting.{AreThere, HasLowered, HasMoved, HasRaised, HasSame, HasSwept, IsClean, IsCleanBesides, Numbers, entry_at, key_order, lowered, number, raised, same_key, some_unless_zero, swept, times}, declared.count_key.CountKey.{CountKey}}, proofs.KeyOrder.{key_order-total, keys_compared, same_key-is}}
 use Rattle.amt_upstream.specs.contracts.count_key.CountKeyOrd as keys
@@ -101,27 +101,43 @@ swept-twice true true entry = ap some_unless_zero (number_kept (unwrap_or entry 
 abbrev one_of : CountKey → CountKey → ℕ
 one_of key other = cond (same_key key other) 1 0
 
-module _ (keys : List CountKey) (index : ℕ) (key : CountKey) (below : index < length keys) (before between after : Numbers) where
-  -- a step of a loop that counts keys in
-  pub HasRaised-more : HasRaised (take index keys) before between → HasRaised (get_or keys index key ∷ []) between after → HasRaised (take (index + 1) keys) before after
-  HasRaised-more some more at =
-      more at ∙ ap (raised (times at (get_or keys index key ∷ []))) (some at) ∙ raised-twice (times at (take index keys)) (times at (get_or keys index key ∷ [])) (entry_at before at)
-      ∙ ap (λ (n : ℕ). raised n (entry_at before at)) (sym (sum_by-append (one_of at) (take index keys) (get_or keys index key ∷ [])))
-      ∙ ap (λ (all : List CountKey). raised (times at all) (entry_at before at)) (sym (take_more keys index key below))
+pub HasRaised-none : (tally : Numbers) → HasRaised [] tally tally
+HasRaised-none tally at = sym (raised-none (entry_at tally at))
 
-  -- of one that counts them out
-  pub HasLowered-more : HasLowered (take index keys) before between → HasLowered (get_or keys index key ∷ []) between after → HasLowered (take (index + 1) keys) before after
-  HasLowered-more some more at =
-      more at ∙ ap (lowered (times at (get_or keys index key ∷ []))) (some at) ∙ lowered-twice (times at (take index keys)) (times at (get_or keys index key ∷ [])) (entry_at before at)
-      ∙ ap (λ (n : ℕ). lowered n (entry_at before at)) (sym (sum_by-append (one_of at) (take index keys) (get_or keys index key ∷ [])))
-      ∙ ap (λ (all : List CountKey). lowered (times at all) (entry_at before at)) (sym (take_more keys index key below))
+pub HasLowered-nothing : (tally : Numbers) → HasLowered [] tally tally
+HasLowered-nothing tally at = sym (lowered-none (entry_at tally at))
 
-  -- and of one that sweeps
-  pub HasSwept-more : HasSwept (take index keys) before between → HasSwept (get_or keys index key ∷ []) between after → HasSwept (take (index + 1) keys) before after
-  HasSwept-more some more at =
-      more at ∙ ap (swept (has key_order (get_or keys index key ∷ []) at)) (some at) ∙ swept-twice (has key_order (take index keys) at) (has key_order (get_or keys index key ∷ []) at) (entry_at before at)
-      ∙ ap (λ (there : Bool). swept there (entry_at before at)) (sym (list_any-append (same_key at) (take index keys) (get_or keys index key ∷ [])))
-      ∙ ap (λ (all : List CountKey). swept (has key_order all at) (entry_at before at)) (sym (take_more keys index key below))
+module _ (keys : List CountKey) (index : ℕ) (key : CountKey) (below : index < length keys) (is : key ≡ get_or keys index key) where
+  next : take (index + 1) keys ≡ take index keys ++ key ∷ []
+  next = take_more keys index key below ∙ ap (λ (one : CountKey). take index keys ++ one ∷ []) (sym is)
+
+  times-next : (at : CountKey) → times at (take index keys) + times at (key ∷ []) ≡ times at (take (index + 1) keys)
+  times-next at = sym (sum_by-append (one_of at) (take index keys) (key ∷ [])) ∙ ap (times at) (sym next)
+
+  has-next : (at : CountKey) → (has key_order (take index keys) at || has key_order (key ∷ []) at) ≡ has key_order (take (index + 1) keys) at
+  has-next at = sym (list_any-append (same_key at) (take index keys) (key ∷ [])) ∙ ap (λ (all : List CountKey). has key_order all at) (sym next)
+
+  has-item : has key_order keys key ≡ true
+  has-item = list_any_at (same_key key) keys index key below (ap (same_key key) (sym is) ∙ (eq_by_cmp_equiv key_order-total).refl key)
+
+  module _ (before between after : Numbers) where
+    -- a step of a loop that counts keys in
+    pub HasRaised-more : HasRaised (take index keys) before between → HasRaised (key ∷ []) between after → HasRaised (take (index + 1) keys) before after
+    HasRaised-more some more at =
+        more at ∙ ap (raised (times at (key ∷ []))) (some at) ∙ raised-twice (times at (take index keys)) (times at (key ∷ [])) (entry_at before at)
+        ∙ ap (λ (n : ℕ). raised n (entry_at before at)) (times-next at)
+
+    -- of one that counts them out
+    pub HasLowered-more : HasLowered (take index keys) before between → HasLowered (key ∷ []) between after → HasLowered (take (index + 1) keys) before after
+    HasLowered-more some more at =
+        more at ∙ ap (lowered (times at (key ∷ []))) (some at) ∙ lowered-twice (times at (take index keys)) (times at (key ∷ [])) (entry_at before at)
+        ∙ ap (λ (n : ℕ). lowered n (entry_at before at)) (times-next at)
+
+    -- and of one that sweeps
+    pub HasSwept-more : HasSwept (take index keys) before between → HasSwept (key ∷ []) between after → HasSwept (take (index + 1) keys) before after
+    HasSwept-more some more at =
+        more at ∙ ap (swept (has key_order (key ∷ []) at)) (some at) ∙ swept-twice (has key_order (take index keys) at) (has key_order (key ∷ []) at) (entry_at before at)
+        ∙ ap (λ (there : Bool). swept there (entry_at before at)) (has-next at)
 
 number-raised : (n : ℕ) (entry : Option ℕ) → unwrap_or (raised n entry) 0 ≡ unwrap_or entry 0 + n
 number-raised n None = number_kept n ∙ sym (zero-add n)
@@ -169,6 +185,25 @@ times_some key (first ∷ rest) some =
 
 clean_at : (entry : Option ℕ) (n : ℕ) → entry ≡ some_unless_zero n → entry ≡ some_unless_zero (unwrap_or entry 0)
 clean_at entry n is = is ∙ sym (ap some_unless_zero (ap number_in is ∙ number_kept n))
+
+-- there is room for one more key
+pub room_for_one : (keys : List CountKey) (index limit : ℕ) (before after : Numbers) (key : CountKey) → index < length keys → number before key + length keys < limit
+    → HasRaised (take index keys) before after → number after key + 1 < limit
+room_for_one keys index limit before after key below room in_ =
+    let more = numbers_raised (take index keys) before after in_ key in
+    let few = count_by-le-length (same_key key) (take index keys) in
+    let long = length-take-le index keys (omega arith) in omega arith
+
+is_some-raised : (n : ℕ) (entry : Option ℕ) → is_some entry ≡ true → is_some (raised n entry) ≡ true
+is_some-raised n None there = cc
+is_some-raised n (Some number) there = refl
+
+-- a key that was there is not refused
+pub never_refused : (keys : List CountKey) (index : ℕ) (key : CountKey) (before after : Numbers) → index < length keys → key ≡ get_or keys index key → AreThere keys before
+    → HasRaised (take index keys) before after → entry_at after key ≡ None → ⊥
+never_refused keys index key before after below is there in_ none =
+    let some = is_some-raised (times key (take index keys)) (entry_at before key) (there key (has-item keys index key below is)) in
+    let same = ap is_some (sym (in_ key) ∙ none) in cc
 
 -- clean numbers stay clean where keys are counted in
 pub IsClean-raised : (keys : List CountKey) (before after : Numbers) → IsClean before → HasRaised keys before after → IsClean after

@@ -27,6 +27,11 @@ counted_order = then_cmp (on rank nat_cmp) same_rank_order
 abbrev pub key_order : CountKey → CountKey → Ordering
 key_order = then_cmp (on (λ key. key.group) ip_order) (on (λ key. key.counted) counted_order)
 
+-- what a source of a filter of the group is counted by
+abbrev pub source_key : Mode → Ip → Ip → CountKey
+source_key Include group source = record { group = group; counted = Including source }
+source_key Exclude group source = record { group = group; counted = Excluding source }
+
 -- what an endpoint's filter of the group is counted by, by mode and list
 abbrev pub keys_by : Mode → Ip → EndpointValue → List Ip → List CountKey
 keys_by Include group endpoint sources = map (λ source. record { group = group; counted = Including source }) sources

@@ -1,29 +1,29 @@
-use Rattle.std.proofs.Common.{rules, ◌≡◌, ℕ, ◌+◌, ◌-◌, ◌<◌, ◌≤◌, ◌^◌, [], ◌∷◌, take, None, is_some, true, length, OnOk, OnErr, ◌*◌, ◌/◌, ◌%◌, Bool, false, nat_eq, nat_lt, List, ◌++◌, slice_index_or, slice_set, bit_and, bit_or, Fits, w8, w32, w64, Bor, MutBor}
-use Rattle.amt_values.specs.Ascending.{has}
-use Rattle.amt_upstream.specs.Counting.{AreThere, HasLowered, HasMoved, HasRaised, HasSame, HasSwept, IsClean, IsCleanBesides, Numbers, entry_at, key_order, number, times}
-use Rattle.amt_upstream.specs.declared.count_key.CountKey.{CountKey as Key}
+use Rattle.std.proofs.Common.{ℕ, ◌≡◌, length, take, subst, arith, ◌∙◌}
+use Rattle.amt_upstream.{specs.Counting.{HasRaised}, proofs.CountedKeys.{HasRaised-more, HasRaised-none, never_refused, room_for_one}}
 use Rattle.amt_upstream.proofs.tally.Tally.add_up.Goals as goal
 
--- src/tally.rt:103:9
 pub loop-index-init : goal.loop-index-init
-loop-index-init c = ?
+loop-index-init c = HasRaised-none c.args.self.now.numbers
 
--- src/tally.rt:104:19
 pub add-requires : goal.add-requires
-add-requires c = ?
+add-requires c =
+    let key = c.index-keys-index.result in
+    room_for_one c.args.keys.now c.loop-index.index 18446744073709551616 c.args.self.now.numbers c.loop-index.self.numbers key c.loop-index-test.true (c.requires key) c.loop-index.invariant
 
--- src/tally.rt:106:27
 pub returns-in-Err-clause-raised : goal.returns-in-Err-clause-raised
-returns-in-Err-clause-raised c = ?
+returns-in-Err-clause-raised c key = c.in-Err.ensures.err key ∙ c.loop-index.invariant key
 
--- src/tally.rt:106:27
 pub returns-in-Err-clause-all : goal.returns-in-Err-clause-all
-returns-in-Err-clause-all c = ?
+returns-in-Err-clause-all c there =
+    absurd (never_refused c.args.keys.now c.loop-index.index c.index-keys-index.result c.args.self.now.numbers c.loop-index.self.numbers
+    c.loop-index-test.true c.index-keys-index.is there c.loop-index.invariant c.in-Err.ensures.absent)
 
--- src/tally.rt:103:9
 pub loop-index-preserved : goal.loop-index-preserved
-loop-index-preserved c = ?
+loop-index-preserved c =
+    HasRaised-more c.args.keys.now c.loop-index.index c.index-keys-index.result c.loop-index-test.true c.index-keys-index.is
+    c.args.self.now.numbers c.loop-index.self.numbers c.add.new.self.numbers c.loop-index.invariant c.in-Ok.ensures.ok
 
--- src/tally.rt:97:5
 pub returns-clause-raised : goal.returns-clause-raised
-returns-clause-raised c = ?
+returns-clause-raised c =
+    let all : c.loop-index.index ≡ length c.args.keys.now = omega arith in
+    subst (λ (n : ℕ). HasRaised (take n c.args.keys.now) c.args.self.now.numbers c.loop-index.self.numbers) all c.loop-index.invariant

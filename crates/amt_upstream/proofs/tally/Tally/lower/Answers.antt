@@ -1,17 +1,16 @@
-use Rattle.std.proofs.Common.{rules, ◌≡◌, ℕ, ◌+◌, ◌-◌, ◌<◌, ◌≤◌, ◌^◌, [], ◌∷◌, take, None, is_some, true, length, OnOk, OnErr, ◌*◌, ◌/◌, ◌%◌, Bool, false, nat_eq, nat_lt, List, ◌++◌, slice_index_or, slice_set, bit_and, bit_or, Fits, w8, w32, w64, Bor, MutBor}
-use Rattle.amt_values.specs.Ascending.{has}
-use Rattle.amt_upstream.specs.Counting.{AreThere, HasLowered, HasMoved, HasRaised, HasSame, HasSwept, IsClean, IsCleanBesides, Numbers, entry_at, key_order, number, times}
-use Rattle.amt_upstream.specs.declared.count_key.CountKey.{CountKey as Key}
+use Rattle.std.proofs.Common.{List, subst}
+use Rattle.std.proofs.lemmas.List.{take_all}
+use Rattle.amt_upstream.{specs.Counting.{HasLowered}, specs.declared.count_key.CountKey.{CountKey}, proofs.CountedKeys.{HasLowered-more, HasLowered-nothing}}
 use Rattle.amt_upstream.proofs.tally.Tally.lower.Goals as goal
 
--- src/tally.rt:125:9
 pub loop-key-init : goal.loop-key-init
-loop-key-init c = ?
+loop-key-init c = HasLowered-nothing c.args.self.now.numbers
 
--- src/tally.rt:125:9
 pub loop-key-preserved : goal.loop-key-preserved
-loop-key-preserved c = ?
+loop-key-preserved c =
+    HasLowered-more c.args.keys.now c.loop-key.key-index c.key-item.result c.loop-key-test.true c.key-item.is
+    c.args.self.now.numbers c.loop-key.self.numbers c.lower_one.new.self.numbers c.loop-key.invariant c.lower_one.ensures
 
--- src/tally.rt:122:5
 pub returns : goal.returns
-returns c = ?
+returns c =
+    subst (λ (keys : List CountKey). HasLowered keys c.args.self.now.numbers c.loop-key.self.numbers) (take_all c.loop-key.key-index c.args.keys.now c.loop-key-test.false) c.loop-key.invariant
