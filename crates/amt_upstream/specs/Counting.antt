@@ -27,10 +27,14 @@ counted_order = then_cmp (on rank nat_cmp) same_rank_order
 abbrev pub key_order : CountKey → CountKey → Ordering
 key_order = then_cmp (on (λ key. key.group) ip_order) (on (λ key. key.counted) counted_order)
 
--- what a source of a filter of the group is counted by
+-- how a source of a filter of this mode counts
+abbrev pub counted_by : Mode → Ip → Counted
+counted_by Include source = Including source
+counted_by Exclude source = Excluding source
+
+-- what it is counted by in the group
 abbrev pub source_key : Mode → Ip → Ip → CountKey
-source_key Include group source = record { group = group; counted = Including source }
-source_key Exclude group source = record { group = group; counted = Excluding source }
+source_key mode group source = record { group = group; counted = counted_by mode source }
 
 -- what an endpoint's filter of the group is counted by, by mode and list
 abbrev pub keys_by : Mode → Ip → EndpointValue → List Ip → List CountKey

@@ -1,7 +1,7 @@
 //! What changes are counted by.
 
 ghost use Rattle.std.specs.Prelude.{◌≡◌, ◌++◌, map, IfOk, OnOk};
-ghost use Rattle.amt_upstream.specs.Counting.{keys_after, keys_before, keys_if, keys_of, source_key};
+ghost use Rattle.amt_upstream.specs.Counting.{counted_by, keys_after, keys_before, keys_if, keys_of, source_key};
 
 use crate::count_key::{CountKey, Counted};
 use amt_values::{Endpoint, Ip};
@@ -82,17 +82,17 @@ fn push_sources(
         (keys.new.items ≡ keys.old.items ++ map (source_key mode group) sources.now) }
 {
     for source in sources {
-        keys.push(source_key(mode, group, *source))?;
+        let counted = counted_by(mode, *source);
+        keys.push(CountKey { group, counted })?;
     }
     Ok(())
 }
 
-fn source_key(mode: Mode, group: Ip, source: Ip) -> CountKey
-    ensures { result ≡ source_key mode group source }
+fn counted_by(mode: Mode, source: Ip) -> Counted
+    ensures { result ≡ counted_by mode source }
 {
-    let counted = match mode {
+    match mode {
         Mode::Include => Counted::Including(source),
         Mode::Exclude => Counted::Excluding(source),
-    };
-    CountKey { group, counted }
+    }
 }
