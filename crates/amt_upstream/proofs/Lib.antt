@@ -1,4 +1,5 @@
-pub mod JoinedByNumbers
+pub mod CountedKeys
+pub mod KeyOrder
 pub mod MovedKeys
 pub mod NumbersAfter
 pub mod WantedBySome

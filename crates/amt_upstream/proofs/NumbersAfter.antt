@@ -4,7 +4,7 @@ use Rattle.amt_values.{specs.{declared.address.Ip.{Ip}, EndpointValue.{EndpointV
 use Rattle.source_filter.specs.declared.mode.Mode.{Mode, TheVariants.{Include, Exclude}}
 use Rattle.endpoint_membership.specs.{GroupFilter.{is_counted_source, named_sources}, Limits.{IsWithin}, Log.{latest, live_chain}, Membership.{Membership}, Memberships.{membership_at, memberships_at, row_of}, MembershipChanges.{AreChanges}, Table.{AreLawful, ForLog, Holds, IsWithinLimits, TableSettings, TableValue, memberships_now}, declared.{change.Change.{Change}, limits.Limits.{Limits}, membership_change.MembershipChange.{MembershipChange}}}
 use Rattle.endpoint_membership.proofs.{FewRows.{AreFew-row_of}, MembershipIn.{All-from_membership_in}, MembershipsByLog.{AreMembershipsAt-memberships_at, membership_by, rows_are}}
-use Rattle.amt_upstream.specs.{Counting.{AreChangesBy, AreInOrder, AreNumbers, AreNumbersAfter, HasMoved, HasSame, IsClean, IsCounted, Numbers, entry_at, keys_after, keys_before, keys_by, keys_in, keys_of, number, same_key, some_unless_zero, times}, Upstream.{StaysWithin}, declared.count_key.{CountKey.{CountKey}, Counted.TheVariants.{Excluding, Including}}}
+use Rattle.amt_upstream.specs.{Counting.{AreInOrder, AreNumbers, HasMoved, HasSame, IsClean, IsCounted, Numbers, entry_at, keys_after, keys_before, keys_by, keys_in, keys_of, number, same_key, some_unless_zero, times}, Taking.{AreChangesBy, AreNumbersAfter}, Upstream.{StaysWithin}, declared.count_key.{CountKey.{CountKey}, Counted.TheVariants.{Excluding, Including}}}
 use Rattle.amt_upstream.proofs.MovedKeys.{keys_moved}
 
 -- what a table keeps are the memberships by its log

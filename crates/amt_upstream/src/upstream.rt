@@ -2,7 +2,7 @@
 
 ghost use Rattle.std.specs.Prelude.{◌≡◌, ◌≤◌, ◌*◌, true, [], ◌∷◌, ◌++◌, All, IfOk, OnOk, OnErr, map};
 ghost use Rattle.endpoint_membership.specs.Table.{AreLawful, ForLog, Holds};
-ghost use Rattle.amt_upstream.specs.{Counting.{AreChangesBy, AreInOrder, AreNumbersAfter, IsCounted}, Looking.{IsSideOf, changed_groups, excludes}, Upstream.{AdmitsTheWanted, StaysWithin, changes_after, joined, upstream_filter}};
+ghost use Rattle.amt_upstream.specs.{Counting.{IsCounted}, Looking.{IsSideOf, changed_groups, excludes}, Taking.{AreChangesBy, AreNumbersAfter}, Upstream.{AdmitsTheWanted, StaysWithin, changes_after, joined, upstream_filter}};
 
 use crate::keys::{keys_after, keys_before};
 use crate::records::changed_records;

@@ -1,6 +1,6 @@
 use Rattle.std.proofs.Common.{◌≡◌, ℕ, ◌+◌, ◌≤◌, ◌<◌, List, length, sym, ap, subst, ◌∙◌, arith}
 use Rattle.endpoint_membership.specs.Table.{TableValue}
-use Rattle.amt_upstream.specs.Counting.{HasMoved, AreNumbersAfter, IsCounted, keys_after, keys_before, number, times}
+use Rattle.amt_upstream.specs.{Counting.{HasMoved, IsCounted, keys_after, keys_before, times}, Taking.{AreNumbersAfter}}
 use Rattle.amt_upstream.specs.declared.count_key.CountKey.{CountKey}
 use Rattle.amt_upstream.proofs.NumbersAfter.{AreNumbersAfter-moved, IsCounted-next, IsCounted-same, enough_before, number-few, number-few_after}
 use Rattle.amt_upstream.proofs.upstream.take_changes.Goals as goal
