@@ -1,1 +1,3 @@
 pub mod JoinedByNumbers
+pub mod KeyCounts
+pub mod KeyOrder
