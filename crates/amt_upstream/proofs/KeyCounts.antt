@@ -1,5 +1,5 @@
 -- How often a key is among those of memberships: once for each membership that it counts.
-use Rattle.std.{proofs.{Common.{◌≡◌, ℕ, ◌+◌, Bool, true, false, cond, ◌&&◌, ◌||◌, List, [], ◌∷◌, map, refl, sym, ap, ◌∙◌, arith, zero-add}, lemmas.{Bool.{or_from}, List.{Folds.{fold-map}, Sums.{sum_by-append, sum_by-cons, sum_by_from}}, Map.{Keys.{sorted_head, sorted_tail}, Views.{tells_apart}}}}, specs.{List.{AllByRecursion, count_by}, Ordering.{eq_by_cmp, is_eq, ordering_then}, declared.cmp.Ordering.{Ordering, TheVariants.{Less, Equal, Greater}}}}
+use Rattle.std.{proofs.{Common.{◌≡◌, ℕ, ◌+◌, Bool, true, false, cond, ◌&&◌, ◌||◌, List, [], ◌∷◌, map, refl, sym, ap, ◌∙◌, arith, zero-add}, lemmas.{Bool.{or_from}, List.{Folds.{fold-map}, Sums.{sum_by-append, sum_by-cons, sum_by_from}}, Map.{Keys.{sorted_head, sorted_tail}, Views.{tells_apart}}}}, specs.{Cmp.{tied_then}, List.{AllByRecursion, count_by}, Ordering.{eq_by_cmp, is_eq}, declared.cmp.Ordering.{TheVariants.{Less}}}}
 use Rattle.amt_values.{specs.{declared.address.Ip.{Ip, TheVariants.{V4}}, Order.{ip_order}, EndpointValue.{EndpointValue}, Ascending.{IsAscending, has}}, proofs.Orders.{ip_order-exact}}
 use Rattle.source_filter.specs.declared.mode.Mode.{Mode, TheVariants.{Include, Exclude}}
 use Rattle.endpoint_membership.specs.{EndpointGroup.{same_endpoint, same_group}, Membership.{Membership}}
@@ -18,14 +18,9 @@ counts counted endpoint mode sources = false
 abbrev pub is_counted : Ip → Counted → Membership → Bool
 is_counted group counted membership = same_group group membership.group && counts counted membership.endpoint membership.filter.mode membership.filter.sources
 
-both_by : (first second : Ordering) → is_eq (ordering_then first second) ≡ (is_eq first && is_eq second)
-both_by Less second = refl
-both_by Equal second = refl
-both_by Greater second = refl
-
 -- keys are one where both parts are
 same_key-by : (group other : Ip) (one two : Counted) → same_key (key_on group one) (key_on other two) ≡ (same_group group other && eq_by_cmp counted_order one two)
-same_key-by group other one two = both_by (ip_order group other) (counted_order one two)
+same_key-by group other one two = sym (tied_then (ip_order group other) (counted_order one two))
 
 -- a source that comes before all others is not among them
 absent : (first : Ip) (rest : List Ip) → AllByRecursion (λ next. ip_order first next ≡ Less) rest → has ip_order rest first ≡ false
