@@ -19,7 +19,7 @@ abbrev pub is_counted : Ip → Counted → Membership → Bool
 is_counted group counted membership = same_group group membership.group && counts counted membership.endpoint membership.filter.mode membership.filter.sources
 
 -- keys are one where both parts are
-same_key-by : (group other : Ip) (one two : Counted) → same_key (key_on group one) (key_on other two) ≡ (same_group group other && eq_by_cmp counted_order one two)
+pub same_key-by : (group other : Ip) (one two : Counted) → same_key (key_on group one) (key_on other two) ≡ (same_group group other && eq_by_cmp counted_order one two)
 same_key-by group other one two = sym (tied_then (ip_order group other) (counted_order one two))
 
 -- a source that comes before all others is not among them

@@ -1,3 +1,4 @@
+pub mod GroupRange
 pub mod JoinedByNumbers
 pub mod KeyCounts
 pub mod KeyOrder
