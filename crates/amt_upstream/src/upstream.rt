@@ -167,7 +167,7 @@ fn excluding_filter(
     requires some { excludes tally.now.numbers group.now ≡ true }
     ensures { IfOk result (λ found. found ≡ joined table.now.rows group.now) }
 {
-    match tally.excluder(group)? {
+    match tally.excluder(group) {
         Some(endpoint) => match table.filter(&endpoint, group) {
             Some(filter) => tally.common(alloc, group, filter.sources()),
             None => unreachable!(),
