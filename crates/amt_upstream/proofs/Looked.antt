@@ -19,7 +19,7 @@ module _ (before : List Membership) (changes : List MembershipChange) (tally : N
   pub look-common : (endpoint : EndpointValue) (its : Option FilterValue) (mode : Mode) (named : List Ip) → 1 ≤ number tally (record { group = group; counted = Excluder endpoint })
       → its ≡ filter_at after (pair endpoint group) → listing Exclude (filter (is_common tally group) (sources_if its)) ≡ seen_after mode named (joined after group)
   look-common endpoint its mode named counted same =
-      let excluding = excluder-found after tally is.numbers group is.ascends endpoint counted in
+      let excluding = excluder-found after tally is.numbers group is.in_order is.ascends endpoint counted in
       let found : listing Exclude (filter (is_common tally group) (sources_if its)) ≡ joined after group =
       ap (λ (one : Option FilterValue). listing Exclude (filter (is_common tally group) (sources_if one))) (same ∙ excluding.found)
       ∙ sym (joined-common after tally is.numbers group is.in_order endpoint excluding.filter excluding.found excluding.excludes) in
@@ -28,7 +28,7 @@ module _ (before : List Membership) (changes : List MembershipChange) (tally : N
   -- where none excludes, the named sources that some includes
   pub look-included : (named : List Ip) → ((endpoint : EndpointValue) → number tally (record { group = group; counted = Excluder endpoint }) ≡ 0)
       → listing Include (filter (is_included tally group) (ascending_sources named)) ≡ seen named (joined after group)
-  look-included named none = sym (seen-included after tally is.numbers group is.in_order (excludes-none after tally is.numbers group none) named)
+  look-included named none = sym (seen-included after tally is.numbers group is.in_order (excludes-none after tally is.numbers group is.in_order none) named)
 
 -- nothing changes by no change
 pub IsAfter-none : (rows : List Membership) (tally : Numbers) → IsAscending membership_order rows → AreNumbers rows tally → AreInOrder rows → IsAfter rows [] tally rows

@@ -27,7 +27,7 @@ pub fn look_after(
         → IsAfter table.now.rows changes.now tally.now.numbers after
         → IfOk result (λ found. found ≡ seen_after mode named.now (joined after group.now)) }
 {
-    match tally.excluder(group)? {
+    match tally.excluder(group) {
         Some(endpoint) => {
             let its = filter_after(table, changes, &endpoint, group);
             tally.common(alloc, group, sources_of(its))
