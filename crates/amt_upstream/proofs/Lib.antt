@@ -1,4 +1,5 @@
 pub mod CountedKeys
+pub mod ExcluderRange
 pub mod GroupRange
 pub mod JoinedByNumbers
 pub mod KeyCounts
