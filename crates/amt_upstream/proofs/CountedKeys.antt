@@ -143,10 +143,6 @@ number-raised : (n : ℕ) (entry : Option ℕ) → unwrap_or (raised n entry) 0 
 number-raised n None = number_kept n ∙ sym (zero-add n)
 number-raised n (Some number) = refl
 
-number-lowered : (n : ℕ) (entry : Option ℕ) → unwrap_or (lowered n entry) 0 ≡ unwrap_or entry 0 - n
-number-lowered n None = omega arith
-number-lowered n (Some number) = refl
-
 number-swept : (at : Bool) (entry : Option ℕ) → unwrap_or (swept at entry) 0 ≡ unwrap_or entry 0
 number-swept false entry = refl
 number-swept true entry = number_kept (unwrap_or entry 0)
@@ -157,10 +153,6 @@ number_in entry = unwrap_or entry 0
 -- the numbers once keys are counted in
 pub numbers_raised : (keys : List CountKey) (before after : Numbers) → HasRaised keys before after → (key : CountKey) → number after key ≡ number before key + times key keys
 numbers_raised keys before after raised key = ap number_in (raised key) ∙ number-raised (times key keys) (entry_at before key)
-
--- and out
-pub numbers_lowered : (keys : List CountKey) (before after : Numbers) → HasLowered keys before after → (key : CountKey) → number after key ≡ number before key - times key keys
-numbers_lowered keys before after lowered key = ap number_in (lowered key) ∙ number-lowered (times key keys) (entry_at before key)
 
 -- sweeping changes none
 pub numbers_swept : (keys : List CountKey) (before after : Numbers) → HasSwept keys before after → (key : CountKey) → number after key ≡ number before key
@@ -224,18 +216,6 @@ swept_clean_by false entry after clean is = clean_at after (unwrap_or entry 0) (
 pub IsClean-swept : (keys : List CountKey) (before after : Numbers) → IsCleanBesides keys before → HasSwept keys before after → IsClean after
 IsClean-swept keys before after clean swept key = swept_clean_by (has key_order keys key) (entry_at before key) (entry_at after key) (clean key) (swept key)
 
--- clean numbers that are the same are kept the same
-pub HasSame-clean : (before after : Numbers) → IsClean before → IsClean after → ((key : CountKey) → number after key ≡ number before key) → HasSame before after
-HasSame-clean before after clean now same key = now key ∙ ap some_unless_zero (same key) ∙ sym (clean key)
-
--- keys counted in, and then others out
-pub HasMoved-counted : (added removed : List CountKey) (before between after : Numbers) → ((key : CountKey) → times key removed ≤ number before key)
-    → HasRaised added before between → HasLowered removed between after → HasMoved added removed before after
-HasMoved-counted added removed before between after enough in_ out key =
-    let few = enough key in
-    let more = numbers_raised added before between in_ key in
-    let less = numbers_lowered removed between after out key in omega arith
-
 there_by : (entry : Option ℕ) → 1 ≤ unwrap_or entry 0 → is_some entry ≡ true
 there_by None some = absurd (omega arith)
 there_by (Some number) some = refl
@@ -244,7 +224,7 @@ is_some-lowered : (n : ℕ) (entry : Option ℕ) → is_some (lowered n entry) �
 is_some-lowered n None = refl
 is_some-lowered n (Some number) = refl
 
--- then those counted out are there still
+-- of keys counted in and then others out, those counted out are there still
 pub AreThere-counted : (added removed : List CountKey) (before between after : Numbers) → ((key : CountKey) → times key removed ≤ number before key)
     → HasRaised added before between → HasLowered removed between after → AreThere removed after
 AreThere-counted added removed before between after enough in_ out key has =

@@ -80,7 +80,7 @@ none_included group [] apart = refl
 none_included group (entry ∷ rest) apart =
     ap (λ (here : Bool). cons_option (cond here (included_source entry.0.counted entry.1) None) (included_in group rest)) apart.0 ∙ none_included group rest apart.1
 
-least_source : (source : Ip) → is_le (ip_order (V4 0) source) ≡ true
+pub least_source : (source : Ip) → is_le (ip_order (V4 0) source) ≡ true
 least_source (V4 number) = least_number number
 least_source (V6 number) = refl
 

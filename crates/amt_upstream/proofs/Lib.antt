@@ -1,6 +1,7 @@
 pub mod ChangedGroups
 pub mod ChangesInOrder
 pub mod CountedKeys
+pub mod ExcluderRange
 pub mod GroupFilters
 pub mod GroupRange
 pub mod JoinedByNumbers

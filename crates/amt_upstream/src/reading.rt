@@ -19,11 +19,7 @@ fn is_of(key: &CountKey, group: &Ip) -> bool
 }
 
 // Puts the source at the end that is counted as included, where the number is not 0.
-fn append_included(
-    key: &CountKey,
-    number: usize,
-    sources: &mut Vec<Ip>,
-) -> Result<(), AllocError>
+fn append_included(key: &CountKey, number: usize, sources: &mut Vec<Ip>) -> Result<(), AllocError>
     ensures { OnOk result (sources.new.items
         ≡ sources.old.items ++ option_to_list (included_source key.now.counted number)) }
 {

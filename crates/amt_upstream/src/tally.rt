@@ -1,6 +1,6 @@
 //! How many memberships each key counts.
 
-ghost use Rattle.std.specs.Prelude.{◌≡◌, ℕ, ◌+◌, ◌-◌, ◌<◌, ◌≤◌, ◌^◌, [], ◌∷◌, take, None, is_some, true, length, OnOk, OnErr};
+ghost use Rattle.std.specs.Prelude.{◌≡◌, ℕ, ◌+◌, ◌-◌, ◌<◌, ◌≤◌, ◌^◌, ◌↔◌, IsTrue, [], ◌∷◌, take, None, is_some, true, length, OnOk, OnErr};
 ghost use Rattle.amt_values.specs.Ascending.{has};
 ghost use Rattle.amt_upstream.specs.{Counting.{AreThere, HasLowered, HasMoved, HasRaised, HasSame, HasSwept, IsClean, IsCleanBesides, Numbers, entry_at, key_order, number, times}, declared.count_key.CountKey.{CountKey as Key}};
 
@@ -127,11 +127,18 @@ impl Tally {
         }
     }
 
+    // Whether the number of the key is 0, kept or not.
+    fn is_at_zero(&self, key: &CountKey) -> bool
+        ensures { IsTrue result ↔ (number self.now.numbers key.now ≡ 0) }
+    {
+        self.number(key) == 0
+    }
+
     // Drops the number of the key if it is 0.
     fn sweep(&mut self, key: &CountKey)
         ensures { HasSwept (key.now ∷ []) self.old.numbers self.new.numbers }
     {
-        if self.number(key) == 0 {
+        if self.is_at_zero(key) {
             self.numbers.remove(key);
         }
     }

@@ -13,8 +13,7 @@ excluded sources = record { mode = Exclude; sources = sources }
 -- the endpoint that was found excludes
 it_excludes : (c : In-Some) → HasExcluding c.args.table.now.rows c.in-Some.endpoint c.args.group.now
 it_excludes c =
-    excluder-found c.args.table.now.rows c.args.tally.now.numbers c.requires.counted.numbers c.args.group.now c.requires.counted.ascend c.in-Some.endpoint
-    (rw c.in-Some.is at c.in_ok-endpoint.ensures.some)
+    excluder-found c.args.table.now.rows c.args.tally.now.numbers c.requires.counted.numbers c.args.group.now c.requires.counted.in_order c.requires.counted.ascend c.in-Some.endpoint c.in-Some.ensures.some
 
 pub unreachable-requires : goal.unreachable-requires
 unreachable-requires c =
@@ -23,7 +22,7 @@ unreachable-requires c =
 
 pub unreachable-requires-in-None : goal.unreachable-requires-in-None
 unreachable-requires-in-None c =
-    let wrong = sym c.requires.some ∙ excludes-none c.args.table.now.rows c.args.tally.now.numbers c.requires.counted.numbers c.args.group.now (rw c.in-None.is at c.in_ok-endpoint.ensures.none) in cc
+    let wrong = sym c.requires.some ∙ excludes-none c.args.table.now.rows c.args.tally.now.numbers c.requires.counted.numbers c.args.group.now c.requires.counted.in_order c.in-None.ensures.none in cc
 
 pub returns : goal.returns
 returns c =
