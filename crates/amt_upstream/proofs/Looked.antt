@@ -1,10 +1,10 @@
 -- What is looked at of filters is found by the numbers, and is enough for the records.
-use Rattle.std.proofs.Common.{◌≡◌, ◌≤◌, false, List, [], All, Option, Some, refl, sym, ap, ◌∙◌}
+use Rattle.std.proofs.Common.{◌≡◌, ◌≤◌, List, [], Option, refl, sym, ap, ◌∙◌}
 use Rattle.std.{proofs.lemmas.List.Elements.{All-nil}, specs.{List.{filter}, List.Sorted.{IsStrictlySortedBy}}}
 use Rattle.amt_values.specs.{declared.address.Ip.{Ip}, EndpointValue.{EndpointValue}, Ascending.{IsAscending}}
-use Rattle.source_filter.{specs.{Changes.{changes_on}, Filter.{FilterValue, ascending_sources}, declared.mode.Mode.{Mode, TheVariants.{Include, Exclude}}, declared.record.Record.{Record}}, proofs.SourceSets.{listing}}
-use Rattle.endpoint_membership.specs.{Membership.{Membership, membership_order}, MembershipChanges.{AreChanges, IsChange, change_order, filter_at}, declared.membership_change.MembershipChange.{MembershipChange}}
-use Rattle.amt_upstream.{specs.{Counting.{AreInOrder, AreNumbers, Numbers, number}, Looking.{IsAfter, IsSideOf, changes_on_group, excludes, is_common, is_included, named_by, seen, seen_after, seen_by, sources_if}, Upstream.{changed_on, joined}, declared.{count_key.Counted.TheVariants.{Excluder}, sides.Side.{Side}}}, proofs.{ChangedGroups.{changed_on-seen}, JoinedByNumbers.{excluder-found, excludes-none, joined-common, pair, seen-included}}}
+use Rattle.source_filter.{specs.{Changes.{changes_on}, Filter.{FilterValue, ascending_sources}, declared.mode.Mode.{Mode, TheVariants.{Include, Exclude}}}, proofs.SourceSets.{listing}}
+use Rattle.endpoint_membership.specs.{Membership.{Membership, membership_order}, MembershipChanges.{IsChange, filter_at}, declared.membership_change.MembershipChange.{MembershipChange}}
+use Rattle.amt_upstream.{specs.{Counting.{AreInOrder, AreNumbers, Numbers, number}, Looking.{IsAfter, IsSideOf, is_common, is_included, seen, seen_after, seen_by, sources_if}, Upstream.{changed_on, joined}, declared.{count_key.Counted.TheVariants.{Excluder}, sides.Side.{Side}}}, proofs.{ChangedGroups.{changed_on-seen}, JoinedByNumbers.{excluder-found, excludes-none, joined-common, pair, seen-included}}}
 
 whole_by : (mode : Mode) (named sources : List Ip) → listing Exclude sources ≡ seen_after mode named (listing Exclude sources)
 whole_by Include named sources = refl

@@ -2,7 +2,7 @@ use Rattle.std.proofs.{Common.{List, filter, ap, ◌∙◌}, lemmas.Result.{IfOk
 use Rattle.amt_values.specs.declared.address.Ip.{Ip}
 use Rattle.source_filter.{specs.declared.mode.Mode.TheVariants.{Exclude}, proofs.SourceSets.{listing}}
 use Rattle.amt_upstream.specs.Looking.{is_common}
-use Rattle.amt_upstream.proofs.{JoinedByNumbers.{excludes-none, pair}, Looked.{look-common, look-included}}
+use Rattle.amt_upstream.proofs.{JoinedByNumbers.{excludes-none}, Looked.{look-common, look-included}}
 use Rattle.amt_upstream.proofs.looking.look_after.Goals as goal
 
 pub returns-in-Some : goal.returns-in-Some

@@ -1,5 +1,4 @@
 use Rattle.std.proofs.Common.{List, ◌∷◌, [], ◌++◌, sym, subst, ◌∙◌, ap}
-use Rattle.source_filter.specs.declared.record.Record.{Record}
 use Rattle.endpoint_membership.specs.{Log.{latest}, Membership.{Membership}, MembershipChanges.{AreChanges}, Table.{memberships_now}}
 use Rattle.endpoint_membership.proofs.MembershipsByLog.{AreMembershipsAt-memberships_at}
 use Rattle.amt_upstream.specs.Upstream.{changes_between}
