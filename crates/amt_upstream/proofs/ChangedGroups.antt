@@ -1,9 +1,9 @@
 -- Only groups that change have records, and what a group's changes name is all that may differ of its filter.
 use Rattle.std.{proofs.{Common.{◌≡◌, Bool, true, false, not, cond, ◌&&◌, ◌||◌, List, [], ◌∷◌, ◌++◌, filter, map, All, refl, sym, ap, ◌∙◌}, Math.Bool.{and_comm}, lemmas.{Bool.{and_right, or_from, or_parts, true≢false}, Cmp.{tied_itself}, List.{map-append, Elements.{All-head, All-tail}}, Map.Views.{tells_apart}}}, specs.{List.{flat_map}, Ordering.{is_eq}}}
 use Rattle.amt_values.{specs.{declared.address.Ip.{Ip}, Order.{ip_order}, Ascending.{IsAscending, difference, has}}, proofs.{Orders.{ip_order-exact, ip_order-total}, AscendingLaws.{IsAscending-ascending, IsAscending-filter, has-append, has-ascending, has-difference, has-filter, same_ascending}}}
-use Rattle.source_filter.specs.{Changes.{changes_by, changes_on, record_of_some}, Merging.{merged}, Record.{lists}, declared.mode.Mode.{Mode, TheVariants.{Include, Exclude}}, declared.record.{Record.{Record}, RecordKind.TheVariants.{Allow, Block}}}
+use Rattle.source_filter.specs.{Changes.{changes_by, changes_on, record_of_some}, Merging.{merged}, Record.{lists}, declared.mode.Mode.{Mode, TheVariants.{Include, Exclude}}, declared.record.{RecordKind.TheVariants.{Allow, Block}}}
 use Rattle.endpoint_membership.{specs.{EndpointGroup.{EndpointGroup, same_endpoint, same_endpoint_group, same_group}, Membership.{Membership, membership_order}, MembershipChanges.{AreChanges, IsChange, changed_pair, changes_pair, filter_at}, declared.membership_change.MembershipChange.{MembershipChange}}, proofs.EndpointGroupOrder.{endpoint_group_order-exact, same_endpoint_group-is}}
-use Rattle.amt_upstream.{specs.{Looking.{changed_groups, changes_on_group, named_by, seen, seen_after, sources_if}, Upstream.{changed_on, changes_between, filters_on, groups_in, joined}}, proofs.{GroupFilters.{IsUnion-merged, filters_on-none, filters_on-same, lists_at, some_lists, some_lists-same}, Narrowed.{Agree, AgreeWhereIncluded, changes_on-seen}}}
+use Rattle.amt_upstream.{specs.{Looking.{changed_groups, changes_on_group, named_by, seen, seen_after, sources_if}, Upstream.{changed_on, changes_between, filters_on, groups_in, joined}}, proofs.{GroupFilters.{IsUnion-merged, filters_on-none, filters_on-same, some_lists-same}, Narrowed.{Agree, AgreeWhereIncluded, changes_on-seen}}}
 
 -- ---- lists by group
 

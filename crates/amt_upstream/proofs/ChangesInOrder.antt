@@ -1,8 +1,8 @@
 -- Changes that ascend: their groups, the changes of one group, and what a search for a pair tells.
-use Rattle.std.{proofs.{Common.{◌≡◌, ℕ, ◌+◌, ◌<◌, ◌≤◌, Bool, true, false, ◌&&◌, ◌||◌, List, [], ◌∷◌, ◌++◌, filter, map, length, get_or, take, drop, All, Option, None, Result, Err, is_lt, IsSorted, refl, sym, ap, subst, ◌∙◌, arith, append-nil}, Math.Bool.{and_comm}, lemmas.{Cmp.{on_total, then_total}, List.{get_or-drop, get_or-map, get_or-take, length-drop, length-map, length-take, take-append-drop, Elements.{All-get_or, All-head, All-tail, filter-append, recursion_from_All}, Sorted.{IsNonDecreasingBy-drop, IsPartitionedBy-leb, searchable_from_sorted}}, Map.Keys.{Less-from_sorted}}}, specs.{Cmp.{IsTotalOrder, tied_then}, List.{AllWithin, Sorted.{IsBinarySearchResult, IsNonDecreasingBy, IsPartitionPoint, IsPartitionedBy, IsSearchInRange, IsSortedBy}}, Ordering.{eq_by_cmp, is_eq, is_le, ordering_index, ordering_reverse, ordering_then}, declared.cmp.Ordering.{Ordering, TheVariants.{Less, Equal, Greater}}}}
+use Rattle.std.{proofs.{Common.{◌≡◌, ℕ, ◌+◌, ◌<◌, ◌≤◌, Bool, true, false, ◌||◌, List, [], ◌∷◌, ◌++◌, filter, map, length, get_or, take, drop, All, None, Err, is_lt, IsSorted, refl, sym, ap, subst, ◌∙◌, arith, append-nil}, Math.Bool.{and_comm}, lemmas.{Cmp.{on_total, then_total}, List.{get_or-drop, get_or-map, get_or-take, length-drop, length-map, length-take, take-append-drop, Elements.{All-get_or, All-head, All-tail, filter-append, recursion_from_All}, Sorted.{IsNonDecreasingBy-drop, IsPartitionedBy-leb, searchable_from_sorted}}, Map.Keys.{Less-from_sorted}}}, specs.{Cmp.{IsTotalOrder, tied_then}, List.{AllWithin, Sorted.{IsBinarySearchResult, IsNonDecreasingBy, IsPartitionPoint, IsPartitionedBy, IsSearchInRange, IsSortedBy}}, Ordering.{eq_by_cmp, is_eq, is_le, ordering_index, ordering_reverse, ordering_then}, declared.cmp.Ordering.{Ordering, TheVariants.{Less, Equal, Greater}}}}
 use Rattle.std.proofs.Math.Dec.{leb}
-use Rattle.amt_values.{specs.{declared.address.Ip.{Ip}, Order.{endpoint_order, ip_order}, EndpointValue.{EndpointValue}, Ascending.{IsAscending, has}}, proofs.{Orders.{both_tied, endpoint_order-total, ip_order-total}, Sorting.{has-searched}}}
-use Rattle.endpoint_membership.{specs.{EndpointGroup.{EndpointGroup, same_endpoint, same_endpoint_group, same_group}, Membership.{Membership}, MembershipChanges.{AreChanges, IsChange, change_order, changed_pair, changes_pair, filter_at}, declared.membership_change.MembershipChange.{MembershipChange}}, proofs.{EndpointGroupOrder.{endpoint_group_order-exact, same_endpoint_group-is}, KeysTogether.{filter-none}}}
+use Rattle.amt_values.{specs.{declared.address.Ip.{Ip}, Order.{endpoint_order, ip_order}, Ascending.{IsAscending, has}}, proofs.{Orders.{both_tied, endpoint_order-total, ip_order-total}, Sorting.{has-searched}}}
+use Rattle.endpoint_membership.{specs.{EndpointGroup.{EndpointGroup, same_endpoint, same_group}, Membership.{Membership}, MembershipChanges.{AreChanges, IsChange, change_order, changed_pair, changes_pair, filter_at}, declared.membership_change.MembershipChange.{MembershipChange}}, proofs.{EndpointGroupOrder.{endpoint_group_order-exact, same_endpoint_group-is}, KeysTogether.{filter-none}}}
 use Rattle.amt_upstream.specs.Looking.{changes_on_group}
 
 -- ---- a search for a pair

@@ -1,6 +1,6 @@
 -- The filters of a group by what each endpoint wants of it.
-use Rattle.std.{proofs.{Common.{◌≡◌, Bool, true, false, cond, ◌||◌, List, [], ◌∷◌, ◌++◌, filter, map, Option, Some, None, refl, sym, ap, subst, ◌∙◌, ⊎_elim}, lemmas.{Bool.{or_cases, or_left, or_parts, or_right, true≢false}, Map.Views.{tells_apart}}}, specs.{List.{AllByRecursion, list_any, Sorted.{IsStrictlySortedBy}}, Option.{option_map}}}
-use Rattle.amt_values.{specs.{declared.address.Ip.{Ip}, Order.{ip_order}, Ascending.{IsAscending, has}}, proofs.{Orders.{ip_order-exact, ip_order-total}, AscendingLaws.{IsAscending-ascending, has-append, has-ascending}}}
+use Rattle.std.{proofs.{Common.{◌≡◌, Bool, true, false, cond, ◌||◌, List, [], ◌∷◌, ◌++◌, filter, map, Option, Some, refl, sym, ap, subst, ◌∙◌, ⊎_elim}, lemmas.{Bool.{or_cases, or_left, or_parts, or_right, true≢false}, Map.Views.{tells_apart}}}, specs.{List.{AllByRecursion, list_any, Sorted.{IsStrictlySortedBy}}, Option.{option_map}}}
+use Rattle.amt_values.{specs.{declared.address.Ip.{Ip}, Order.{ip_order}, Ascending.{IsAscending, has}}, proofs.{Orders.{ip_order-total}, AscendingLaws.{IsAscending-ascending, has-append, has-ascending}}}
 use Rattle.source_filter.specs.{Filter.{FilterValue}, Merging.{all_sources, exclude_list, exclude_lists, include_list, include_lists, intersection_of, merged, merged_by, union_of}, Record.{lists}, declared.mode.Mode.{Mode, TheVariants.{Include, Exclude}}}
 use Rattle.endpoint_membership.specs.{EndpointGroup.{EndpointGroup, endpoint_group_order, same_endpoint_group, same_group}, Membership.{Membership, endpoint_group_of, membership_order}, MembershipChanges.{filter_at}, Memberships.{membership_in}}
 use Rattle.endpoint_membership.proofs.{EndpointGroupOrder.{endpoint_group_order-exact}, MembershipIn.{GivesItsEndpointGroup-membership_in, All-from_membership_in, IsAscending-pairs, same_where}, SetAt.{IsAscending-from_pairs}}

@@ -1,10 +1,10 @@
 -- What is looked at of filters is found by the numbers, and is enough for the records.
-use Rattle.std.proofs.Common.{◌≡◌, ◌≤◌, false, List, [], All, Option, Some, refl, sym, ap, ◌∙◌}
+use Rattle.std.proofs.Common.{◌≡◌, ◌≤◌, List, [], Option, refl, sym, ap, ◌∙◌}
 use Rattle.std.{proofs.lemmas.List.Elements.{All-nil}, specs.{List.{filter}, List.Sorted.{IsStrictlySortedBy}}}
 use Rattle.amt_values.specs.{declared.address.Ip.{Ip}, EndpointValue.{EndpointValue}, Ascending.{IsAscending}}
-use Rattle.source_filter.{specs.{Changes.{changes_on}, Filter.{FilterValue, ascending_sources}, declared.mode.Mode.{Mode, TheVariants.{Include, Exclude}}, declared.record.Record.{Record}}, proofs.SourceSets.{listing}}
-use Rattle.endpoint_membership.specs.{Membership.{Membership, membership_order}, MembershipChanges.{AreChanges, IsChange, change_order, filter_at}, declared.membership_change.MembershipChange.{MembershipChange}}
-use Rattle.amt_upstream.{specs.{Counting.{AreInOrder, AreNumbers, Numbers, number}, Looking.{IsAfter, IsSideOf, changes_on_group, excludes, is_common, is_included, named_by, seen, seen_after, seen_by, sources_if}, Upstream.{changed_on, joined}, declared.{count_key.Counted.TheVariants.{Excluder}, sides.Side.{Side}}}, proofs.{ChangedGroups.{changed_on-seen}, JoinedByNumbers.{excluder-found, excludes-none, joined-common, pair, seen-included}}}
+use Rattle.source_filter.{specs.{Changes.{changes_on}, Filter.{FilterValue, ascending_sources}, declared.mode.Mode.{Mode, TheVariants.{Include, Exclude}}}, proofs.SourceSets.{listing}}
+use Rattle.endpoint_membership.specs.{Membership.{Membership, membership_order}, MembershipChanges.{IsChange, filter_at}, declared.membership_change.MembershipChange.{MembershipChange}}
+use Rattle.amt_upstream.{specs.{Counting.{AreInOrder, AreNumbers, Numbers, number}, Looking.{IsAfter, IsSideOf, is_common, is_included, seen, seen_after, seen_by, sources_if}, Upstream.{changed_on, joined}, declared.{count_key.Counted.TheVariants.{Excluder}, sides.Side.{Side}}}, proofs.{ChangedGroups.{changed_on-seen}, JoinedByNumbers.{excluder-found, excludes-none, joined-common, pair, seen-included}}}
 
 whole_by : (mode : Mode) (named sources : List Ip) → listing Exclude sources ≡ seen_after mode named (listing Exclude sources)
 whole_by Include named sources = refl
@@ -19,7 +19,7 @@ module _ (before : List Membership) (changes : List MembershipChange) (tally : N
   pub look-common : (endpoint : EndpointValue) (its : Option FilterValue) (mode : Mode) (named : List Ip) → 1 ≤ number tally (record { group = group; counted = Excluder endpoint })
       → its ≡ filter_at after (pair endpoint group) → listing Exclude (filter (is_common tally group) (sources_if its)) ≡ seen_after mode named (joined after group)
   look-common endpoint its mode named counted same =
-      let excluding = excluder-found after tally is.numbers group is.ascends endpoint counted in
+      let excluding = excluder-found after tally is.numbers group is.in_order is.ascends endpoint counted in
       let found : listing Exclude (filter (is_common tally group) (sources_if its)) ≡ joined after group =
       ap (λ (one : Option FilterValue). listing Exclude (filter (is_common tally group) (sources_if one))) (same ∙ excluding.found)
       ∙ sym (joined-common after tally is.numbers group is.in_order endpoint excluding.filter excluding.found excluding.excludes) in
@@ -28,7 +28,7 @@ module _ (before : List Membership) (changes : List MembershipChange) (tally : N
   -- where none excludes, the named sources that some includes
   pub look-included : (named : List Ip) → ((endpoint : EndpointValue) → number tally (record { group = group; counted = Excluder endpoint }) ≡ 0)
       → listing Include (filter (is_included tally group) (ascending_sources named)) ≡ seen named (joined after group)
-  look-included named none = sym (seen-included after tally is.numbers group is.in_order (excludes-none after tally is.numbers group none) named)
+  look-included named none = sym (seen-included after tally is.numbers group is.in_order (excludes-none after tally is.numbers group is.in_order none) named)
 
 -- nothing changes by no change
 pub IsAfter-none : (rows : List Membership) (tally : Numbers) → IsAscending membership_order rows → AreNumbers rows tally → AreInOrder rows → IsAfter rows [] tally rows

@@ -1,7 +1,7 @@
 -- The change records need no more of INCLUDE lists than the sources that may have changed.
 use Rattle.std.proofs.Common.{◌≡◌, Bool, true, false, not, ◌&&◌, List, ◌++◌, refl, sym, ap, ◌∙◌}
 use Rattle.amt_values.{specs.{declared.address.Ip.{Ip}, Order.{ip_order}, Ascending.{IsAscending, difference, has, intersection}}, proofs.{Orders.{ip_order-exact, ip_order-total}, AscendingLaws.{IsAscending-filter, has-difference, has-intersection, same_ascending}}}
-use Rattle.source_filter.{specs.{Changes.{changes_by, changes_on, record_of_some}, Filter.{FilterValue}, declared.mode.Mode.{Mode, TheVariants.{Include, Exclude}}, declared.record.{Record.{Record}, RecordKind.TheVariants.{Allow, Block}}}, proofs.SourceSets.{listing}}
+use Rattle.source_filter.{specs.{Changes.{changes_by, changes_on, record_of_some}, Filter.{FilterValue}, declared.mode.Mode.{Mode, TheVariants.{Include, Exclude}}, declared.record.{RecordKind.TheVariants.{Allow, Block}}}, proofs.SourceSets.{listing}}
 use Rattle.amt_upstream.specs.Looking.{seen, seen_after}
 
 -- both lists ascend, and each source that isn't named is in both or in neither

@@ -1,6 +1,5 @@
 use Rattle.std.proofs.{Common.{rules, of_calls, ◌∙◌}, lemmas.Fn.{always_returns_same}}
-use Rattle.amt_values.specs.{declared.address.Ip.{Ip}, EndpointValue.{EndpointValue}}
-use Rattle.endpoint_membership.specs.{EndpointGroup.{EndpointGroup}, MembershipChanges.{change_order}, declared.membership_change.MembershipChange.{MembershipChange}}
+use Rattle.endpoint_membership.specs.{MembershipChanges.{change_order}}
 use Rattle.amt_upstream.proofs.{ChangesInOrder.{after-found, after-none, place_of}, JoinedByNumbers.{pair}}
 use Rattle.amt_upstream.proofs.looking.filter_after.Goals as goal
 

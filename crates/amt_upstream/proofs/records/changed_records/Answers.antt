@@ -1,5 +1,4 @@
-use Rattle.std.{proofs.{Common.{List, length, ◌≤◌, arith, sym, ap, ◌∙◌}, lemmas.List.{take_all, Folds.{flat_map-map}}}, specs.List.{flat_map}}
-use Rattle.amt_values.specs.declared.address.Ip.{Ip}
+use Rattle.std.{proofs.{Common.{length, ◌≤◌, arith, sym, ap, ◌∙◌}, lemmas.List.{take_all, Folds.{flat_map-map}}}, specs.List.{flat_map}}
 use Rattle.amt_upstream.{specs.{Upstream.{changed_on}, declared.sides.Side.{Side}}, proofs.ChangedGroups.{changes_between-changed}}
 use Rattle.amt_upstream.proofs.records.changed_records.Goals as goal
 

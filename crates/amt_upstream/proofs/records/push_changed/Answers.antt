@@ -1,4 +1,4 @@
-use Rattle.std.proofs.{Common.{◌≡◌, ◌++◌, List, ap, ◌∙◌}, lemmas.Result.{on_ok_weaker}}
+use Rattle.std.proofs.{Common.{◌++◌, List, ap, ◌∙◌}, lemmas.Result.{on_ok_weaker}}
 use Rattle.source_filter.specs.declared.record.Record.{Record}
 use Rattle.amt_values.specs.declared.address.Ip.{Ip}
 use Rattle.amt_upstream.specs.{Looking.{seen_after}, Upstream.{joined}}

@@ -1,5 +1,4 @@
 use Rattle.std.proofs.Common.{List, ◌∷◌, [], ◌++◌, sym, subst, ◌∙◌, ap}
-use Rattle.source_filter.specs.declared.record.Record.{Record}
 use Rattle.endpoint_membership.specs.{Log.{latest}, Membership.{Membership}, MembershipChanges.{AreChanges}, Table.{memberships_now}}
 use Rattle.endpoint_membership.proofs.MembershipsByLog.{AreMembershipsAt-memberships_at}
 use Rattle.amt_upstream.specs.Upstream.{changes_between}
@@ -15,5 +14,5 @@ returns-clause-records c settings log holds =
     let rows = rows_now settings table log holds in
     c.in_ok-records.ensures after (c.requires.numbers settings log holds) (AreInOrder-memberships_at settings.lifetime (latest next) next) (AreInOrder-Holds settings table log holds)
     (subst (λ (before : List Membership). AreChanges before after c.args.changes.now) (sym rows) (c.requires.changes settings log holds))
-    holds.rows.ascend after_log.ascend
+    holds.rows.ascend (AreMembershipsAt-memberships_at settings.lifetime (latest next) next).ascend
     ∙ ap (λ (before : List Membership). changes_between before after) rows
