@@ -10,7 +10,6 @@ returns-clause-records c settings log holds =
     let table = c.args.table.now in
     let next = log ++ c.args.change.now ∷ [] in
     let after = memberships_now settings next in
-    let after_log = AreMembershipsAt-memberships_at settings.lifetime (latest next) next in
     let rows = rows_now settings table log holds in
     c.in_ok-records.ensures after (c.requires.numbers settings log holds) (AreInOrder-memberships_at settings.lifetime (latest next) next) (AreInOrder-Holds settings table log holds)
     (subst (λ (before : List Membership). AreChanges before after c.args.changes.now) (sym rows) (c.requires.changes settings log holds))
