@@ -1,3 +1,4 @@
 pub mod Counting
 pub mod Looking
+pub mod Taking
 pub mod Upstream

@@ -1,9 +1,9 @@
 -- How the filter of a group is found by numbers, and how much of it is looked at. No public contract says these words.
-use Rattle.std.specs.{Prelude.{◌≡◌, ℕ, ◌==◌, nat_lt, Bool, true, false, ◌&&◌, List, [], ◌++◌, map, Option, Some, None}, List.{filter, flat_map}}
-use Rattle.amt_values.specs.{declared.address.Ip.{Ip}, Order.{ip_order}, Ascending.{ascending, intersection}}
+use Rattle.std.specs.{Prelude.{◌≡◌, ℕ, ◌==◌, nat_lt, Bool, ◌&&◌, List, [], ◌++◌, map, Option, Some, None, if◌then◌else◌}, List.{filter, flat_map}}
+use Rattle.amt_values.specs.{declared.address.Ip.{Ip}, EndpointValue.{EndpointValue}, Order.{ip_order}, Ascending.{IsAscending, ascending, intersection}}
 use Rattle.source_filter.specs.{Filter.{FilterValue}, declared.mode.Mode.{Mode, TheVariants.{Include, Exclude}}}
-use Rattle.endpoint_membership.specs.{EndpointGroup.{same_group}, Membership.{Membership}, declared.membership_change.MembershipChange.{MembershipChange}}
-use Rattle.amt_upstream.specs.{Counting.{Numbers, number}, Upstream.{joined}, declared.{count_key.{CountKey.{CountKey}, Counted.TheVariants.{Excluders, Excluding, Including}}, sides.Side.{Side}}}
+use Rattle.endpoint_membership.specs.{EndpointGroup.{same_group}, Membership.{Membership, membership_order}, MembershipChanges.{AreChanges}, declared.membership_change.MembershipChange.{MembershipChange}}
+use Rattle.amt_upstream.specs.{Counting.{AreInOrder, AreNumbers, Numbers, number}, Upstream.{joined}, declared.{count_key.{Counted.{Counted, TheVariants.{Excluders, Excluder, Excluding, Including}}}, sides.Side.{Side}}}
 
 -- some membership excludes
 abbrev pub excludes : Numbers → Ip → Bool
@@ -18,6 +18,16 @@ abbrev pub is_common : Numbers → Ip → Ip → Bool
 is_common tally group source =
     number tally (record { group = group; counted = Excluding source }) == number tally (record { group = group; counted = Excluders })
     && number tally (record { group = group; counted = Including source }) == 0
+
+-- the source that is counted as included, where the number is not 0
+abbrev pub included_source : Counted → ℕ → Option Ip
+included_source (Including source) number = if nat_lt 0 number then Some source else None
+included_source counted number = None
+
+-- the endpoint that is counted as excluding
+abbrev pub excluding_endpoint : Counted → Option EndpointValue
+excluding_endpoint (Excluder endpoint) = Some endpoint
+excluding_endpoint counted = None
 
 -- the sources of a filter, if there is one
 abbrev pub sources_if : Option FilterValue → List Ip
@@ -54,3 +64,11 @@ seen_after Exclude sources filter = filter
 pub record IsSideOf (rows : List Membership) (changes : List MembershipChange) (side : Side) : Type 0 where
   pub named : side.named.items ≡ named_by (changes_on_group side.group changes)
   pub before : side.before ≡ seen side.named.items (joined rows side.group)
+
+-- memberships after the changes, ascending as those before them do, and their numbers
+pub record IsAfter (before : List Membership) (changes : List MembershipChange) (tally : Numbers) (after : List Membership) : Type 0 where
+  pub ascended : IsAscending membership_order before
+  pub ascends : IsAscending membership_order after
+  pub are_changes : AreChanges before after changes
+  pub numbers : AreNumbers after tally
+  pub in_order : AreInOrder after

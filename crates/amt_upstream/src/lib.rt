@@ -10,6 +10,7 @@
 
 mod count_key;
 mod keys;
+mod looking;
 mod reading;
 mod records;
 mod sides;

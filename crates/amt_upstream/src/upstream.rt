@@ -1,12 +1,15 @@
 //! What all tunnel endpoints together want.
 
-ghost use Rattle.std.specs.Prelude.{◌≡◌, ◌≤◌, ◌*◌, [], ◌∷◌, ◌++◌, IfOk, OnOk, OnErr};
+ghost use Rattle.std.specs.Prelude.{◌≡◌, ◌≤◌, ◌*◌, true, [], ◌∷◌, ◌++◌, All, IfOk, OnOk, OnErr, map};
 ghost use Rattle.endpoint_membership.specs.Table.{AreLawful, ForLog, Holds};
-ghost use Rattle.amt_upstream.specs.Upstream.{AdmitsTheWanted, StaysWithin, changes_after, upstream_filter};
+ghost use Rattle.amt_upstream.specs.{Counting.{IsCounted}, Looking.{IsSideOf, changed_groups, excludes}, Taking.{AreChangesBy, AreNumbersAfter}, Upstream.{AdmitsTheWanted, StaysWithin, changes_after, joined, upstream_filter}};
 
+use crate::keys::{keys_after, keys_before};
+use crate::records::changed_records;
+use crate::sides::{Side, sides_of};
 use crate::tally::Tally;
 use amt_values::Ip;
-use endpoint_membership::{Change, Limits, Table};
+use endpoint_membership::{Change, Limits, MembershipChange, Table};
 use source_filter::{Filter, Records};
 use std::alloc::{AllocError, Global};
 use std::marker::Model;
@@ -38,7 +41,11 @@ impl Upstream {
         requires product { (limits.endpoints * limits.groups) * limits.sources ≤ 16777216 }
         ensures { IfOk result (λ upstream. Holds (record { limits = limits; lifetime = lifetime_ms }) upstream []) }
     {
-        Err(AllocError)
+        let table = Table::new(alloc, limits, lifetime_ms)?;
+        Ok(Upstream {
+            table,
+            tally: Tally::new(alloc),
+        })
     }
 
     /// Takes the next entry of the log, and answers it by the change records of each group of which
@@ -51,7 +58,14 @@ impl Upstream {
             Holds settings self.new (log ++ change.now ∷ []))) }
         ensures same { OnErr result (self.new ≡ self.old) }
     {
-        Err(AllocError)
+        let changes = self.table.changes_by(alloc, change)?;
+        take_changes(
+            alloc,
+            &mut self.table,
+            &mut self.tally,
+            change,
+            changes.as_slice(),
+        )
     }
 
     /// What all endpoints together want of the group: INCLUDE of nothing where none wants it.
@@ -61,6 +75,103 @@ impl Upstream {
         ensures admits { ForLog self.now (λ settings log. IfOk result (
             AdmitsTheWanted settings.lifetime log group.now)) }
     {
-        Err(AllocError)
+        joined_filter(alloc, &self.table, &self.tally, group)
+    }
+}
+
+// Counts the changes, and takes the entry that makes them. Where that fails, the numbers are put back.
+fn take_changes(
+    alloc: Global,
+    table: &mut Table,
+    tally: &mut Tally,
+    change: &Change,
+    changes: &[MembershipChange],
+) -> Result<Records, AllocError>
+    requires counted { IsCounted table.old tally.old.numbers }
+    requires within { StaysWithin table.old change.now }
+    requires changes { AreChangesBy table.old change.now changes.now }
+    ensures records { ForLog table.old (λ settings log. IfOk result (λ records.
+        records ≡ changes_after settings log change.now)) }
+    ensures stands { ForLog table.old (λ settings log. OnOk result (
+        Holds settings table.new (log ++ change.now ∷ []))) }
+    ensures same { OnErr result (table.new ≡ table.old) }
+    ensures counted { IsCounted table.new tally.new.numbers }
+{
+    let sides = sides_of(alloc, table, tally, changes)?;
+    let added = keys_after(alloc, changes)?;
+    let removed = keys_before(alloc, changes)?;
+    tally.count(&added, &removed)?;
+    match take_counted(alloc, table, tally, change, changes, &sides) {
+        Ok(records) => {
+            tally.settle(&removed);
+            Ok(records)
+        }
+        Err(error) => {
+            tally.restore(&added, &removed);
+            Err(error)
+        }
+    }
+}
+
+// Takes the entry once its changes are counted. The records are made first: they need the table as it
+// was before.
+fn take_counted(
+    alloc: Global,
+    table: &mut Table,
+    tally: &Tally,
+    change: &Change,
+    changes: &[MembershipChange],
+    sides: &[Side],
+) -> Result<Records, AllocError>
+    requires changes { AreChangesBy table.old change.now changes.now }
+    requires numbers { AreNumbersAfter table.old change.now tally.now.numbers }
+    requires groups { map (λ side. side.group) sides.now ≡ changed_groups changes.now }
+    requires each { All (IsSideOf table.old.rows changes.now) sides.now }
+    ensures records { ForLog table.old (λ settings log. IfOk result (λ records.
+        records ≡ changes_after settings log change.now)) }
+    ensures stands { ForLog table.old (λ settings log. OnOk result (
+        Holds settings table.new (log ++ change.now ∷ []))) }
+    ensures same { OnErr result (table.new ≡ table.old) }
+{
+    let records = changed_records(alloc, table, tally, changes, sides)?;
+    table.absorb(alloc, change)?;
+    Ok(records)
+}
+
+// The filter of the group by the numbers.
+fn joined_filter(
+    alloc: Global,
+    table: &Table,
+    tally: &Tally,
+    group: &Ip,
+) -> Result<Filter, AllocError>
+    requires { IsCounted table.now tally.now.numbers }
+    ensures { IfOk result (λ found. found ≡ joined table.now.rows group.now) }
+{
+    if tally.excludes(group) {
+        excluding_filter(alloc, table, tally, group)
+    } else {
+        tally.included(alloc, group)
+    }
+}
+
+// The same where some endpoint excludes: the list of any one of these has all that the group's filter
+// excludes.
+fn excluding_filter(
+    alloc: Global,
+    table: &Table,
+    tally: &Tally,
+    group: &Ip,
+) -> Result<Filter, AllocError>
+    requires counted { IsCounted table.now tally.now.numbers }
+    requires some { excludes tally.now.numbers group.now ≡ true }
+    ensures { IfOk result (λ found. found ≡ joined table.now.rows group.now) }
+{
+    match tally.excluder(group) {
+        Some(endpoint) => match table.filter(&endpoint, group) {
+            Some(filter) => tally.common(alloc, group, filter.sources()),
+            None => unreachable!(),
+        },
+        None => unreachable!(),
     }
 }

@@ -1,0 +1,129 @@
+-- Only groups that change have records, and what a group's changes name is all that may differ of its filter.
+use Rattle.std.{proofs.{Common.{◌≡◌, Bool, true, false, not, cond, ◌&&◌, ◌||◌, List, [], ◌∷◌, ◌++◌, filter, map, All, refl, sym, ap, ◌∙◌}, Math.Bool.{and_comm}, lemmas.{Bool.{and_right, or_from, or_parts, true≢false}, Cmp.{tied_itself}, List.{map-append, Elements.{All-head, All-tail}}, Map.Views.{tells_apart}}}, specs.{List.{flat_map}, Ordering.{is_eq}}}
+use Rattle.amt_values.{specs.{declared.address.Ip.{Ip}, Order.{ip_order}, Ascending.{IsAscending, difference, has}}, proofs.{Orders.{ip_order-exact, ip_order-total}, AscendingLaws.{IsAscending-ascending, IsAscending-filter, has-append, has-ascending, has-difference, has-filter, same_ascending}}}
+use Rattle.source_filter.specs.{Changes.{changes_by, changes_on, record_of_some}, Merging.{merged}, Record.{lists}, declared.mode.Mode.{Mode, TheVariants.{Include, Exclude}}, declared.record.{RecordKind.TheVariants.{Allow, Block}}}
+use Rattle.endpoint_membership.{specs.{EndpointGroup.{EndpointGroup, same_endpoint, same_endpoint_group, same_group}, Membership.{Membership, membership_order}, MembershipChanges.{AreChanges, IsChange, changed_pair, changes_pair, filter_at}, declared.membership_change.MembershipChange.{MembershipChange}}, proofs.EndpointGroupOrder.{endpoint_group_order-exact, same_endpoint_group-is}}
+use Rattle.amt_upstream.{specs.{Looking.{changed_groups, changes_on_group, named_by, seen, seen_after, sources_if}, Upstream.{changed_on, changes_between, filters_on, groups_in, joined}}, proofs.{GroupFilters.{IsUnion-merged, filters_on-none, filters_on-same, some_lists-same}, Narrowed.{Agree, changes_on-seen}}}
+
+-- ---- lists by group
+
+module _ {A B : Type 0} (f : A → List B) where
+  left_out : (passes : Bool) (x : A) (xs : List A) → (passes ≡ false → f x ≡ []) → flat_map f (cond passes (x ∷ xs) xs) ≡ f x ++ flat_map f xs
+  left_out true x xs nothing = refl
+  left_out false x xs nothing = sym (ap (λ first. first ++ flat_map f xs) (nothing refl))
+
+  -- items that give nothing may be left out
+  flat_map-filter : (test : A → Bool) → ((x : A) → test x ≡ false → f x ≡ []) → (xs : List A) → flat_map f (filter test xs) ≡ flat_map f xs
+  flat_map-filter test nothing [] = refl
+  flat_map-filter test nothing (x ∷ xs) = left_out (test x) x (filter test xs) (nothing x) ∙ ap (λ rest. f x ++ rest) (flat_map-filter test nothing xs)
+
+-- two ascending lists give the same where what is in one alone gives nothing
+flat_map-same : {B : Type 0} (f : Ip → List B) (xs ys : List Ip) → IsAscending ip_order xs → IsAscending ip_order ys → ((x : Ip) → has ip_order xs x ≡ false → f x ≡ [])
+    → ((x : Ip) → has ip_order ys x ≡ false → f x ≡ []) → flat_map f xs ≡ flat_map f ys
+flat_map-same f xs ys first second none_first none_second =
+    sym (flat_map-filter f (has ip_order ys) none_second xs)
+    ∙ ap (flat_map f) (same_ascending ip_order-total ip_order-exact (filter (has ip_order ys) xs) (filter (has ip_order xs) ys)
+    (IsAscending-filter ip_order (has ip_order ys) xs first) (IsAscending-filter ip_order (has ip_order xs) ys second)
+    (λ s. has-filter ip_order-exact (has ip_order ys) xs s ∙ and_comm (has ip_order xs s) (has ip_order ys s) ∙ sym (has-filter ip_order-exact (has ip_order xs) ys s)))
+    ∙ flat_map-filter f (has ip_order xs) none_first ys
+
+-- ---- a filter that stays has no record
+
+none : (xs : List Ip) → ((source : Ip) → has ip_order xs source ≡ false) → xs ≡ []
+none [] each = refl
+none (x ∷ xs) each = absurd (true≢false (sym (ap (λ order. is_eq order || has ip_order xs x) (tied_itself ip_order-total x)) ∙ each x))
+
+never : (listed : Bool) → (listed && not listed) ≡ false
+never true = refl
+never false = refl
+
+difference-itself : (sources : List Ip) → difference ip_order sources sources ≡ []
+difference-itself sources = none (difference ip_order sources sources) (λ source. has-difference ip_order-exact sources sources source ∙ never (has ip_order sources source))
+
+unchanged_by : (mode : Mode) (sources : List Ip) (group : Ip) → changes_by mode mode group sources sources ≡ []
+unchanged_by Include sources group = ap (λ (left : List Ip). record_of_some Allow group left ++ record_of_some Block group left) (difference-itself sources)
+unchanged_by Exclude sources group = ap (λ (left : List Ip). record_of_some Allow group left ++ record_of_some Block group left) (difference-itself sources)
+
+-- ---- what the changes of a group leave as it was
+
+unnamed_by : (here : Bool) (first : MembershipChange) (rest : List MembershipChange) (source : Ip) → lists (named_by (cond here (first ∷ rest) rest)) source ≡ false
+    → (lists (named_by rest) source ≡ false) × (here ≡ true → (lists (sources_if first.before) source ≡ false) × (lists (sources_if first.after) source ≡ false))
+unnamed_by true first rest source unnamed =
+    let both = or_parts (lists (sources_if first.before ++ sources_if first.after) source) _ (sym (has-append ip_order (sources_if first.before ++ sources_if first.after) (named_by rest) source) ∙ unnamed) in
+    let its = or_parts (lists (sources_if first.before) source) _ (sym (has-append ip_order (sources_if first.before) (sources_if first.after) source) ∙ both.0) in
+    (both.1, λ here. its)
+unnamed_by false first rest source unnamed = (unnamed, λ here. absurd (true≢false (sym here)))
+
+not_changed : (at : EndpointGroup) (changes : List MembershipChange) → has ip_order (map (λ change. change.group) changes) at.group ≡ false → changes_pair changes at ≡ false
+not_changed at [] apart = refl
+not_changed at (first ∷ rest) apart =
+    let parts = or_parts (same_group at.group first.group) (has ip_order (map (λ (change : MembershipChange). change.group) rest) at.group) apart in
+    or_from (same_endpoint_group at (changed_pair first)) (changes_pair rest at)
+    (same_endpoint_group-is at (changed_pair first) ∙ and_right (same_endpoint at.endpoint first.endpoint) (same_group at.group first.group) parts.0) (not_changed at rest parts.1)
+
+module _ (before after : List Membership) where
+  abbrev ListsAlike : Ip → EndpointGroup → Type 0
+  ListsAlike source at = lists (sources_if (filter_at before at)) source ≡ lists (sources_if (filter_at after at)) source
+
+  alike_by : (here : Bool) (at : EndpointGroup) (source : Ip) (change : MembershipChange) → IsChange before after change → (here ≡ true → at ≡ changed_pair change)
+      → (here ≡ true → (lists (sources_if change.before) source ≡ false) × (lists (sources_if change.after) source ≡ false)) → (here ≡ false → ListsAlike source at) → ListsAlike source at
+  alike_by true at source change is same none later =
+      let both = none refl in
+      rw (same refl) (sym (ap (λ wanted. lists (sources_if wanted) source) is.was) ∙ both.0 ∙ sym both.1 ∙ ap (λ wanted. lists (sources_if wanted) source) is.is)
+  alike_by false at source change is same none later = later refl
+
+  -- a source that the changes don't name is listed by a pair's filter before where it is by the one after
+  alike : (changes : List MembershipChange) (source : Ip) (at : EndpointGroup) → All (IsChange before after) changes → lists (named_by (changes_on_group at.group changes)) source ≡ false
+      → (changes_pair changes at ≡ false → ListsAlike source at) → ListsAlike source at
+  alike [] source at all unnamed others = others refl
+  alike (first ∷ rest) source at all unnamed others =
+      let parts = unnamed_by (same_group at.group first.group) first (changes_on_group at.group rest) source unnamed in
+      let same = tells_apart endpoint_group_order-exact at (changed_pair first) in
+      let is_here = λ (here : same_endpoint_group at (changed_pair first) ≡ true). ap (λ (one : EndpointGroup). same_group at.group one.group) (sym (same here)) ∙ ap is_eq (tied_itself ip_order-total at.group) in
+      alike_by (same_endpoint_group at (changed_pair first)) at source first (All-head (IsChange before after) first rest all) same (λ here. parts.1 (is_here here))
+      (λ apart. alike rest source at (All-tail (IsChange before after) first rest all) parts.0 (λ more. others (or_from (same_endpoint_group at (changed_pair first)) (changes_pair rest at) apart more)))
+
+  module _ (changes : List MembershipChange) (first : IsAscending membership_order before) (second : IsAscending membership_order after) (are : AreChanges before after changes) where
+    -- a group without a change has the same filter
+    filters_on-unchanged : (group : Ip) → has ip_order (changed_groups changes) group ≡ false → filters_on group before ≡ filters_on group after
+    filters_on-unchanged group apart =
+        filters_on-same group before after first second (λ at here. are.others at (not_changed at changes
+        (ap (has ip_order (map (λ (change : MembershipChange). change.group) changes)) (sym (tells_apart ip_order-exact group at.group here)) ∙ sym (has-ascending ip_order-total (map (λ (change : MembershipChange). change.group) changes) group) ∙ apart)))
+
+    same_records : (group : Ip) → filters_on group before ≡ filters_on group after → changed_on before after group ≡ []
+    same_records group same =
+        ap (λ filters. changes_on (joined before group) (merged filters) group) (sym same) ∙ unchanged_by (joined before group).mode (joined before group).sources group
+
+    -- the records are those of the groups that change
+    pub changes_between-changed : changes_between before after ≡ flat_map (changed_on before after) (changed_groups changes)
+    unfolding changes_between
+    changes_between-changed =
+        let groups = map (λ (membership : Membership). membership.group) in
+        flat_map-same (changed_on before after) (groups_in (before ++ after)) (changed_groups changes) (IsAscending-ascending ip_order-total (groups (before ++ after)))
+        (IsAscending-ascending ip_order-total (map (λ (change : MembershipChange). change.group) changes))
+        (λ group apart.
+        let parts = or_parts (has ip_order (groups before) group) (has ip_order (groups after) group)
+        (sym (has-append ip_order (groups before) (groups after) group) ∙ ap (λ all. has ip_order all group) (sym (map-append (λ (membership : Membership). membership.group) before after)) ∙ sym (has-ascending ip_order-total (groups (before ++ after)) group) ∙ apart) in
+        same_records group (filters_on-none group before parts.0 ∙ sym (filters_on-none group after parts.1)))
+        (λ group apart. same_records group (filters_on-unchanged group apart))
+
+    agree : (group : Ip) → (joined before group).mode ≡ Include → (joined after group).mode ≡ Include
+        → Agree (named_by (changes_on_group group changes)) (joined before group).sources (joined after group).sources
+    agree group included includes =
+        let old = IsUnion-merged (filters_on group before) included in
+        let new = IsUnion-merged (filters_on group after) includes in
+        record {
+          old_ascends = old.ascends;
+          new_ascends = new.ascends;
+          each = λ source unnamed. old.each source
+              ∙ some_lists-same group source before after first second
+              (λ at here. alike changes source at are.each (ap (λ one. lists (named_by (changes_on_group one changes)) source) (sym (tells_apart ip_order-exact group at.group here)) ∙ unnamed)
+              (λ apart. ap (λ wanted. lists (sources_if wanted) source) (are.others at apart)))
+              ∙ sym (new.each source);
+        }
+
+    -- the records of a group by what is looked at of its filters
+    pub changed_on-seen : (group : Ip) (named : List Ip) → named ≡ named_by (changes_on_group group changes)
+        → changes_on (seen named (joined before group)) (seen_after (joined before group).mode named (joined after group)) group ≡ changed_on before after group
+    changed_on-seen group named are_named =
+        rw are_named (changes_on-seen (named_by (changes_on_group group changes)) (joined before group) (joined after group) group (agree group))

@@ -1,0 +1,14 @@
+pub mod ChangedGroups
+pub mod ChangesInOrder
+pub mod CountedKeys
+pub mod ExcluderRange
+pub mod GroupFilters
+pub mod GroupRange
+pub mod JoinedByNumbers
+pub mod KeyCounts
+pub mod KeyOrder
+pub mod Looked
+pub mod MovedKeys
+pub mod Narrowed
+pub mod NumbersAfter
+pub mod WantedBySome
