@@ -5,12 +5,13 @@ ghost use Rattle.endpoint_membership.specs.Table.{AreLawful, ForLog, Holds};
 ghost use Rattle.amt_upstream.specs.{Counting.{IsCounted}, Looking.{IsSideOf, changed_groups, excludes}, Taking.{AreChangesBy, AreNumbersAfter}, Upstream.{AdmitsTheWanted, StaysWithin, changes_after, joined, upstream_filter}};
 
 use crate::keys::{keys_after, keys_before};
+use crate::looking::look_after;
 use crate::records::changed_records;
 use crate::sides::{Side, sides_of};
 use crate::tally::Tally;
 use amt_values::Ip;
 use endpoint_membership::{Change, Limits, MembershipChange, Table};
-use source_filter::{Filter, Records};
+use source_filter::{Filter, Mode, Records};
 use std::alloc::{AllocError, Global};
 use std::marker::Model;
 
@@ -148,30 +149,5 @@ fn joined_filter(
     requires { IsCounted table.now tally.now.numbers }
     ensures { IfOk result (λ found. found ≡ joined table.now.rows group.now) }
 {
-    if tally.excludes(group) {
-        excluding_filter(alloc, table, tally, group)
-    } else {
-        tally.included(alloc, group)
-    }
-}
-
-// The same where some endpoint excludes: the list of any one of these has all that the group's filter
-// excludes.
-fn excluding_filter(
-    alloc: Global,
-    table: &Table,
-    tally: &Tally,
-    group: &Ip,
-) -> Result<Filter, AllocError>
-    requires counted { IsCounted table.now tally.now.numbers }
-    requires some { excludes tally.now.numbers group.now ≡ true }
-    ensures { IfOk result (λ found. found ≡ joined table.now.rows group.now) }
-{
-    match tally.excluder(group) {
-        Some(endpoint) => match table.filter(&endpoint, group) {
-            Some(filter) => tally.common(alloc, group, filter.sources()),
-            None => unreachable!(),
-        },
-        None => unreachable!(),
-    }
+    look_after(alloc, table, &[], tally, Mode::Exclude, group, &[])
 }
