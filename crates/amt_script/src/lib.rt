@@ -25,7 +25,7 @@ pub use fault_text::append_unlawful;
 pub use kind::{Key, Kind};
 pub use reading::read_relay_script;
 pub use record_text::append_group_record;
-pub use replay::{run_relay_script, write_rows};
+pub use replay::{run_relay_script, write_rows, write_shown};
 pub use row_text::{append_row, append_row_count, append_sources};
 pub use script::{RelayItem, RelayItems, RelayScript};
 pub use script_lines::{Reason, RunFault, ScriptError};

@@ -89,8 +89,9 @@ pub fn write_rows<O: Sink>(
     write_each_row(rows, held, out)
 }
 
-// The relay's memberships.
-fn write_shown<O: Sink>(
+/// The lines of the relay's memberships, with how many they are before them. They go after what is held, and
+/// are written in pieces.
+pub fn write_shown<O: Sink>(
     alloc: Global,
     relay: &Relay,
     number: u64,
