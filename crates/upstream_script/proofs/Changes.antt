@@ -1,5 +1,5 @@
 -- Memberships that stay as they are change nothing that is wanted.
-use Rattle.std.{proofs.{Common.{◌≡◌, Bool, true, false, not, ◌&&◌, ◌||◌, List, [], ◌∷◌, ◌++◌, refl, sym, ap, ◌∙◌}, lemmas.Cmp.{tied_itself}}, specs.{List.{flat_map}, Ordering.{is_eq}, declared.cmp.Ordering.{Ordering}}}
+use Rattle.std.{proofs.{Common.{◌≡◌, Bool, true, false, not, ◌&&◌, ◌||◌, List, [], ◌∷◌, ◌++◌, refl, ap, ◌∙◌}, lemmas.Cmp.{tied_itself}}, specs.{List.{flat_map}, Ordering.{is_eq}, declared.cmp.Ordering.{Ordering}}}
 use Rattle.amt_values.{specs.{declared.address.Ip.{Ip}, Order.{ip_order}, Ascending.{difference, has}}, proofs.{AscendingLaws.{has-difference}, Orders.{ip_order-exact, ip_order-total}}}
 use Rattle.source_filter.specs.Changes.{changes_by, record_of_some}
 use Rattle.source_filter.specs.declared.mode.Mode.{Mode, TheVariants.{Include, Exclude}}

@@ -1,5 +1,5 @@
 -- A relay and what its endpoints together want, after one item more.
-use Rattle.std.{proofs.{Common.{◌≡◌, ℕ, List, [], ◌∷◌, ◌++◌, Option, None, Some, sym, ap, subst, ◌∙◌, append_assoc, append-nil}, lemmas.List.Elements.{filter_map-append}}, specs.{List.{AllByRecursion, flat_map}, Prelude.{IfSome}}}
+use Rattle.std.{proofs.{Common.{◌≡◌, ℕ, List, [], ◌∷◌, ◌++◌, Option, None, Some, sym, ap, subst, ◌∙◌, append-nil}, lemmas.List.Elements.{filter_map-append}}, specs.{List.{AllByRecursion, flat_map}, Prelude.{IfSome}}}
 use Rattle.response_mac.specs.declared.secret.Secret.{Secret}
 use Rattle.source_filter.specs.declared.record.Record.{Record}
 use Rattle.endpoint_membership.specs.{Limits.{IsWithin}, Table.{Holds, TableSettings, TableValue, memberships_now}, declared.change.Change.{Change}}
@@ -8,7 +8,7 @@ use Rattle.relay_machine.specs.{Accepted.{change_of, with_change}, Answers.{Rela
 use Rattle.relay_machine.{specs.declared.{event.Event.{Event}, outcome.Outcome.{Outcome}, sends.OneSend.{OneSend}, settings.Settings.{Settings}}, proofs.PublishedLog.{published_log-next, published_log-none, published_log-within}}
 use Rattle.amt_script.specs.{Running.{IsItem}, Texts.{RelayStart, event_in, events_in, step_text}, declared.script.RelayItem.{RelayItem}}
 use Rattle.amt_script.specs.declared.script.RelayItem.TheVariants as items
-use Rattle.upstream_script.{specs.{Running.{IsUpstreamAfter, MayCome}, Texts.{change_line, published_memberships, records_of, text_after}, declared.replay.UpstreamRun.{UpstreamRun}}, proofs.Changes.{same_rows}}
+use Rattle.upstream_script.{specs.{Running.{IsUpstreamAfter, MayCome}, Texts.{change_line, published_memberships, text_after}, declared.replay.UpstreamRun.{UpstreamRun}}, proofs.Changes.{same_rows}}
 
 -- where no entry is taken there is no line
 pub none_taken : (settings : TableSettings) (log : List Change) (entry : Option Change) (text : List ℕ) → entry ≡ None
@@ -40,21 +40,20 @@ may_take settings first events event (Some change) upstream lawful holds is = re
 
 -- the text of an event, by what its step was
 pub text_is : (start : RelayStart) (before : List RelayItem) (number : ℕ) (event : Event) (outcome : Outcome) (sends : List OneSend) (entry : Option Change)
-    (held step : List ℕ) (after : List ℕ)
+    (text : List ℕ)
     → outcome ≡ outcome_of start.settings start.secret (events_in before) event → sends ≡ sends_of start.settings start.secret (events_in before) event
-    → entry ≡ change_of start.settings start.secret (events_in before) event → step ≡ held ++ step_text number outcome sends
-    → after ≡ step ++ flat_map change_line (changes_between (published_memberships start.settings start.secret (events_in before))
+    → entry ≡ change_of start.settings start.secret (events_in before) event
+    → text ≡ step_text number outcome sends
+    ++ flat_map change_line (changes_between (published_memberships start.settings start.secret (events_in before))
     (memberships_now (table_settings_of start.settings) (with_change (published_log start.settings start.secret (events_in before)) entry)))
-    → after ≡ held ++ text_after start before number (items.Event event)
-text_is start before number event outcome sends entry held step after is_outcome is_sends is_entry is_step is_after =
+    → text ≡ text_after start before number (items.Event event)
+text_is start before number event outcome sends entry text is_outcome is_sends is_entry is_text =
     let settings = start.settings in
     let events = events_in before in
     let rows = published_memberships settings start.secret events in
     let log = log_is settings start.secret events event entry is_entry in
-    is_after
-    ∙ (λ i. is_step i ++ flat_map change_line (changes_between rows (memberships_now (table_settings_of settings) (log i))))
-    ∙ append_assoc held (step_text number outcome sends) (flat_map change_line (records_of settings start.secret events event))
-    ∙ (λ i. held ++ (step_text number (is_outcome i) (is_sends i) ++ flat_map change_line (records_of settings start.secret events event)))
+    is_text
+    ∙ (λ i. step_text number (is_outcome i) (is_sends i) ++ flat_map change_line (changes_between rows (memberships_now (table_settings_of settings) (log i))))
 
 -- both are where the items lead that have these events
 at_events : (run : UpstreamRun) (start : RelayStart) (items : List RelayItem) (events : List Event) → events ≡ events_in items

@@ -63,9 +63,9 @@ fn take_event(
         OnOk result (IsUpstreamAfter run.new start (before ++ EventItem event.now ∷ []))) }
 {
     let step = run.relay.step(alloc, event)?;
-    let text = print_relay_step(alloc, number, &step)?;
-    held.append(text.as_slice())?;
-    append_taken(alloc, &mut run.upstream, &step.change, held)
+    let mut text = print_relay_step(alloc, number, &step)?;
+    append_taken(alloc, &mut run.upstream, &step.change, &mut text)?;
+    held.append(text.as_slice())
 }
 
 // Takes one event, and writes its text.

@@ -1,4 +1,4 @@
-use Rattle.std.proofs.{Common.{◌≡◌, Some, None}, lemmas.Result.{on_ok_weaker}}
+use Rattle.std.proofs.{lemmas.Result.{on_ok_weaker}}
 use Rattle.upstream_script.proofs.{Runs.{none_taken}}
 use Rattle.upstream_script.proofs.replay.append_taken.Goals as goal
 

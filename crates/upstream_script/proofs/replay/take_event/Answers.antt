@@ -1,7 +1,7 @@
 use Rattle.std.proofs.{Common.{ℕ, List, ◌++◌, ap, ◌∙◌}, lemmas.Result.{on_ok_weaker}}
 use Rattle.relay_machine.specs.{Published.{published_log}, Settings.{table_settings_of}}
 use Rattle.amt_script.specs.Texts.{events_in}
-use Rattle.upstream_script.proofs.{Runs.{event_more, may_take, text_is}}
+use Rattle.upstream_script.proofs.Runs.{event_more, may_take, text_is}
 use Rattle.upstream_script.proofs.replay.take_event.Goals as goal
 
 pub append_taken-requires : goal.append_taken-requires
@@ -13,19 +13,20 @@ append_taken-requires c =
 
 pub returns-clause-text : goal.returns-clause-text
 returns-clause-text c = λ start before at.
+    let step = c.in_ok-step.ensures in
+    let settings = start.settings in
     let events = events_in before in
-    let ensures = c.in_ok-step.ensures in
-    let step = c.in_ok-append.ensures.ok ∙ ap (λ (text : List ℕ). c.args.held.now ++ text) (c.as_slice.ensures ∙ c.in_ok-text.ensures) in
-    on_ok_weaker c.append_taken.result
-    (λ after. text_is start before c.args.number c.args.event.now _ _ c.in_ok-step.step.change c.args.held.now c.append.new.self c.append_taken.new.text
-    (ensures.outcome start.settings start.secret events at.relay_at) (ensures.sends start.settings start.secret events at.relay_at)
-    (ensures.change start.settings start.secret events at.relay_at) step after)
-    (c.append_taken.ensures.text (table_settings_of start.settings) (published_log start.settings start.secret events) at.upstream_at)
+    let taken = c.in_ok-append_taken.ensures.text (table_settings_of settings) (published_log settings start.secret events) at.upstream_at in
+    let text = text_is start before c.args.number c.args.event.now c.in_ok-step.step.outcome c.in_ok-step.step.sends c.in_ok-step.step.change c.append_taken.new.text
+    (step.outcome settings start.secret events at.relay_at) (step.sends settings start.secret events at.relay_at) (step.change settings start.secret events at.relay_at)
+    (rw c.in_ok-text.ensures at taken) in
+    on_ok_weaker c.append.result (λ held. held ∙ ap (λ (all : List ℕ). c.args.held.now ++ all) (c.as_slice.ensures ∙ text)) c.append.ensures.ok
 
 pub returns-clause-next : goal.returns-clause-next
 returns-clause-next c = λ start before at.
     let events = events_in before in
-    on_ok_weaker c.append_taken.result
-    (λ upstream. event_more _ start before c.args.event.now c.in_ok-step.step.change
-    (c.in_ok-step.ensures.change start.settings start.secret events at.relay_at) (c.in_ok-step.ensures.next start.settings start.secret events at.relay_at) upstream)
-    (c.append_taken.ensures.next (table_settings_of start.settings) (published_log start.settings start.secret events) at.upstream_at)
+    on_ok_weaker c.append.result
+    (λ held. event_more _ start before c.args.event.now c.in_ok-step.step.change
+    (c.in_ok-step.ensures.change start.settings start.secret events at.relay_at) (c.in_ok-step.ensures.next start.settings start.secret events at.relay_at)
+    (c.in_ok-append_taken.ensures.next (table_settings_of start.settings) (published_log start.settings start.secret events) at.upstream_at))
+    c.append.ensures.ok
