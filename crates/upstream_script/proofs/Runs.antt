@@ -8,7 +8,7 @@ use Rattle.relay_machine.specs.{Accepted.{change_of, with_change}, Answers.{Rela
 use Rattle.relay_machine.{specs.declared.{event.Event.{Event}, outcome.Outcome.{Outcome}, sends.OneSend.{OneSend}, settings.Settings.{Settings}}, proofs.PublishedLog.{published_log-next, published_log-none, published_log-within}}
 use Rattle.amt_script.specs.{Running.{IsItem}, Texts.{RelayStart, event_in, events_in, step_text}, declared.script.RelayItem.{RelayItem}}
 use Rattle.amt_script.specs.declared.script.RelayItem.TheVariants as items
-use Rattle.upstream_script.{specs.{Running.{IsUpstreamAfter, MayCome}, Texts.{change_line, published_memberships, text_after}, declared.replay.UpstreamRun.{UpstreamRun}}, proofs.Changes.{same_rows}}
+use Rattle.upstream_script.{specs.{Running.{IsUpstreamAfter, MayCome}, Texts.{change_line, item_text, published_memberships}, declared.replay.UpstreamRun.{UpstreamRun}}, proofs.Changes.{same_rows}}
 
 -- where no entry is taken there is no line
 pub none_taken : (settings : TableSettings) (log : List Change) (entry : Option Change) (text : List ℕ) → entry ≡ None
@@ -19,41 +19,35 @@ none_taken settings log entry text none =
     ∙ (ap (λ (records : List Record). text ++ flat_map change_line records) (sym (same_rows rows))
     ∙ ap (λ (one : Option Change). text ++ flat_map change_line (changes_between rows (memberships_now settings (with_change log one)))) (sym none))
 
--- the published log with what the step hands out is that of the events with this one
-log_is : (settings : Settings) (first : Secret) (events : List Event) (event : Event) (entry : Option Change) → entry ≡ change_of settings first events event
-    → with_change (published_log settings first events) entry ≡ published_log settings first (events ++ event ∷ [])
-log_is settings first events event entry is =
-    ap (with_change (published_log settings first events)) is ∙ sym (published_log-next settings first events event)
+module _ (settings : Settings) (first : Secret) (events : List Event) (event : Event) where
+  -- the published log with what the step hands out is that of the events with this one
+  log_is : (entry : Option Change) → entry ≡ change_of settings first events event
+      → with_change (published_log settings first events) entry ≡ published_log settings first (events ++ event ∷ [])
+  log_is entry is = ap (with_change (published_log settings first events)) is ∙ sym (published_log-next settings first events event)
 
--- what the step hands out may be taken
-pub may_take : (settings : Settings) (first : Secret) (events : List Event) (event : Event) (entry : Option Change) (upstream : TableValue)
-    → AreLawfulSettings settings → Holds (table_settings_of settings) upstream (published_log settings first events)
-    → entry ≡ change_of settings first events event → IfSome entry (StaysWithin upstream)
-may_take settings first events event None upstream lawful holds is = tt
-may_take settings first events event (Some change) upstream lawful holds is = record {
-  settings = table_settings_of settings;
-  log = published_log settings first events;
-  holds = holds;
-  within = subst (λ (log : List Change). IsWithin settings.limits (memberships_now (table_settings_of settings) log))
-      (sym (log_is settings first events event (Some change) is)) (published_log-within settings first (events ++ event ∷ []) lawful);
-}
+  -- what the step hands out may be taken
+  pub may_take : (entry : Option Change) (upstream : TableValue) → AreLawfulSettings settings
+      → Holds (table_settings_of settings) upstream (published_log settings first events) → entry ≡ change_of settings first events event → IfSome entry (StaysWithin upstream)
+  may_take None upstream lawful holds is = tt
+  may_take (Some change) upstream lawful holds is = record {
+    settings = table_settings_of settings;
+    log = published_log settings first events;
+    holds = holds;
+    within = subst (λ (log : List Change). IsWithin settings.limits (memberships_now (table_settings_of settings) log))
+        (sym (log_is (Some change) is)) (published_log-within settings first (events ++ event ∷ []) lawful);
+  }
 
--- the text of an event, by what its step was
-pub text_is : (start : RelayStart) (before : List RelayItem) (number : ℕ) (event : Event) (outcome : Outcome) (sends : List OneSend) (entry : Option Change)
-    (text : List ℕ)
-    → outcome ≡ outcome_of start.settings start.secret (events_in before) event → sends ≡ sends_of start.settings start.secret (events_in before) event
-    → entry ≡ change_of start.settings start.secret (events_in before) event
-    → text ≡ step_text number outcome sends
-    ++ flat_map change_line (changes_between (published_memberships start.settings start.secret (events_in before))
-    (memberships_now (table_settings_of start.settings) (with_change (published_log start.settings start.secret (events_in before)) entry)))
-    → text ≡ text_after start before number (items.Event event)
-text_is start before number event outcome sends entry text is_outcome is_sends is_entry is_text =
-    let settings = start.settings in
-    let events = events_in before in
-    let rows = published_memberships settings start.secret events in
-    let log = log_is settings start.secret events event entry is_entry in
-    is_text
-    ∙ (λ i. step_text number (is_outcome i) (is_sends i) ++ flat_map change_line (changes_between rows (memberships_now (table_settings_of settings) (log i))))
+  -- the text of the event, by what its step was
+  pub text_is : (number : ℕ) (outcome : Outcome) (sends : List OneSend) (entry : Option Change) (step text : List ℕ)
+      → outcome ≡ outcome_of settings first events event → sends ≡ sends_of settings first events event → entry ≡ change_of settings first events event
+      → step ≡ step_text number outcome sends
+      → text ≡ step ++ flat_map change_line (changes_between (published_memberships settings first events)
+      (memberships_now (table_settings_of settings) (with_change (published_log settings first events) entry)))
+      → text ≡ item_text settings first events number (items.Event event)
+  text_is number outcome sends entry step text is_outcome is_sends is_entry is_step is_text =
+      let rows = published_memberships settings first events in
+      let answer = is_step ∙ (λ i. step_text number (is_outcome i) (is_sends i)) in
+      is_text ∙ (λ i. answer i ++ flat_map change_line (changes_between rows (memberships_now (table_settings_of settings) (log_is entry is_entry i))))
 
 -- both are where the items lead that have these events
 at_events : (run : UpstreamRun) (start : RelayStart) (items : List RelayItem) (events : List Event) → events ≡ events_in items

@@ -17,9 +17,9 @@ returns-clause-text c = λ start before at.
     let settings = start.settings in
     let events = events_in before in
     let taken = c.in_ok-append_taken.ensures.text (table_settings_of settings) (published_log settings start.secret events) at.upstream_at in
-    let text = text_is start before c.args.number c.args.event.now c.in_ok-step.step.outcome c.in_ok-step.step.sends c.in_ok-step.step.change c.append_taken.new.text
+    let text = text_is settings start.secret events c.args.event.now c.args.number _ _ c.in_ok-step.step.change c.in_ok-text.text c.append_taken.new.text
     (step.outcome settings start.secret events at.relay_at) (step.sends settings start.secret events at.relay_at) (step.change settings start.secret events at.relay_at)
-    (rw c.in_ok-text.ensures at taken) in
+    c.in_ok-text.ensures taken in
     on_ok_weaker c.append.result (λ held. held ∙ ap (λ (all : List ℕ). c.args.held.now ++ all) (c.as_slice.ensures ∙ text)) c.append.ensures.ok
 
 pub returns-clause-next : goal.returns-clause-next
