@@ -9,6 +9,8 @@ pub enum Replayable {
     Gateway,
     /// A relay and its gateways.
     Pair,
+    /// A relay, with what it tells its own network.
+    Upstream,
 }
 
 /// What `amt` is asked to do.

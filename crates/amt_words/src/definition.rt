@@ -1,7 +1,7 @@
 //! The written definitions of the commands, for `clap`. It reads no word.
 
 ghost use Rattle.std.specs.Prelude.{◌≡◌, [], codes, false, true, IfOk};
-ghost use Rattle.clap.specs.{Words.{IsParsedFrom, IsPlainArg, app_of, args_of, found_of, groups_of, rule_of}, Built.{TakesValue}, declared.{builder.command.Command.TheViews.{out-Command as fields_of}, parser.matches.ArgMatches.{ArgMatches as MatchesValue}}};
+ghost use Rattle.clap.specs.{Words.{IsParsedFrom, IsPlainArg, app_of, args_of, found_of, groups_of, rule_of, with_subcommand}, Simple.{new_shape}, Built.{TakesValue}, declared.{builder.command.Command.TheViews.{out-Command as fields_of}, parser.matches.ArgMatches.{ArgMatches as MatchesValue}}};
 ghost use Rattle.amt_words.specs.{Given.{HasNumber, HasNumberIfAny, HasWord}, Usage.{bare_usage, gateway_usage, load_usage, number_rule, option_rule, relay_usage, replay_usage, word_rule}};
 
 use clap::builder::ValueParser;
@@ -21,6 +21,18 @@ pub fn bare_definition<'a>(alloc: Global, name: &'a str) -> clap::Command<'a>
         .disable_version_flag(true)
 }
 
+// One more subcommand, with nothing after its name.
+fn with_replayable<'a>(
+    alloc: Global,
+    definition: clap::Command<'a>,
+    name: &'a str,
+) -> Result<clap::Command<'a>, AllocError>
+    ensures { IfOk result (λ more. app_of more
+        ≡ with_subcommand (app_of definition.entry) (new_shape name.entry.now)) }
+{
+    definition.subcommand(clap::Command::new(alloc, name))
+}
+
 /// `replay`, and what can be replayed as its subcommands.
 pub fn replay_definition<'a>(alloc: Global) -> Result<clap::Command<'a>, AllocError>
     ensures { IfOk result (λ definition. app_of definition ≡ replay_usage) }
@@ -28,9 +40,10 @@ pub fn replay_definition<'a>(alloc: Global) -> Result<clap::Command<'a>, AllocEr
     let head = bare_definition(alloc, "replay")
         .disable_help_subcommand(true)
         .subcommand_required(true);
-    head.subcommand(clap::Command::new(alloc, "relay"))?
-        .subcommand(clap::Command::new(alloc, "gateway"))?
-        .subcommand(clap::Command::new(alloc, "pair"))
+    let relay = with_replayable(alloc, head, "relay")?;
+    let gateway = with_replayable(alloc, relay, "gateway")?;
+    let pair = with_replayable(alloc, gateway, "pair")?;
+    with_replayable(alloc, pair, "upstream")
 }
 
 fn seed_argument<'a>(alloc: Global) -> Arg<'a>
