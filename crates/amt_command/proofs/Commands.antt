@@ -7,7 +7,7 @@ use Rattle.amt_script.{proofs.Lawful.{relay_kind_lawful}, specs.Script.{relay_ki
 use Rattle.amt_vectors.{proofs.{Lawful.{vector_kind_lawful}, Reports.{report_unique}}, specs.Kind.{vector_kind}}
 use Rattle.gateway_script.{proofs.Lawful.{gateway_kind_lawful}, specs.Script.{gateway_kind}}
 use Rattle.pair_script.{proofs.Lawful.{pair_kind_lawful}, specs.Script.{pair_kind}}
-use Rattle.amt_words.specs.{declared.command.{Command.{Command, TheVariants.{Dump, Load, Replay, Vectors, Gateway as GatewayServing, Relay as RelayServing}}, Replayable.TheVariants.{Gateway, Pair, Relay}}, Line.{IsAccepted, IsCommandLine}, Usage.{dump_usage, gateway_usage, load_usage, relay_usage, replay_usage, vectors_usage}}
+use Rattle.amt_words.specs.{declared.command.{Command.{Command, TheVariants.{Dump, Load, Replay, Vectors, Gateway as GatewayServing, Relay as RelayServing}}, Replayable.TheVariants.{Gateway, Pair, Relay, Upstream}}, Line.{IsAccepted, IsCommandLine}, Usage.{dump_usage, gateway_usage, load_usage, relay_usage, replay_usage, vectors_usage}}
 use Rattle.amt_ports.specs.declared.files.Files.{Ghosts as FilesTell}
 use Rattle.serving_commands.specs.Lives.{Tells}
 use Rattle.amt_command.specs.{Command.{work_of}, Running.{IsGatewayLine, IsRelayLine, ServesFor}, Serving.{untouched}, Task.{HasOneFaultFor, HasOneValue, IsErrorBy}}
@@ -16,6 +16,7 @@ pub one_value_of : (command : Command) → HasOneValue (work_of command)
 one_value_of (Replay Relay) = one_script relay_kind relay_kind_lawful
 one_value_of (Replay Gateway) = one_script gateway_kind gateway_kind_lawful
 one_value_of (Replay Pair) = one_script pair_kind pair_kind_lawful
+one_value_of (Replay Upstream) = one_script relay_kind relay_kind_lawful
 one_value_of Dump = one_dump
 one_value_of Vectors = report_unique
 one_value_of (Load seed count) = tt
@@ -26,6 +27,7 @@ pub one_fault_of : (command : Command) → HasOneFaultFor (work_of command)
 one_fault_of (Replay Relay) = one_fault relay_kind relay_kind_lawful
 one_fault_of (Replay Gateway) = one_fault gateway_kind gateway_kind_lawful
 one_fault_of (Replay Pair) = one_fault pair_kind pair_kind_lawful
+one_fault_of (Replay Upstream) = one_fault relay_kind relay_kind_lawful
 one_fault_of Dump = one_fault dump_kind dump_kind_lawful
 one_fault_of Vectors = one_fault vector_kind vector_kind_lawful
 one_fault_of (Load seed count) = tt

@@ -4,14 +4,16 @@ use Rattle.amt_dump.specs.{Dump.{IsDump}, Lines.{dump_kind}}
 use Rattle.amt_ports.specs.Causes.{Rose}
 use Rattle.amt_script.specs.{Script.{relay_kind}, Texts.{relay_script_text}, declared.script.RelayScript.{RelayScript}}
 use Rattle.amt_vectors.specs.{Kind.{vector_kind}, Report.{IsVectorsReport}, Texts.{difference_of, suite_text}, declared.report.SuiteReport.{SuiteReport}}
-use Rattle.amt_words.specs.declared.command.{Command.{Command, TheVariants.{Dump, Load, Replay, Vectors, Gateway as GatewayServing, Relay as RelayServing}}, Replayable.TheVariants.{Gateway, Pair, Relay}}
+use Rattle.amt_words.specs.declared.command.{Command.{Command, TheVariants.{Dump, Load, Replay, Vectors, Gateway as GatewayServing, Relay as RelayServing}}, Replayable.TheVariants.{Gateway, Pair, Relay, Upstream}}
 use Rattle.gateway_script.specs.{Script.{gateway_kind}, Texts.{gateway_script_text}, declared.script.GatewayScript.{GatewayScript}}
 use Rattle.pair_script.specs.{Script.{pair_kind}, Texts.{pair_script_text}, declared.script.PairScript.{PairScript}}
 use Rattle.relay_load.specs.{Counts.{summary_of}, Script.{load_script_of}, Texts.{load_text}}
 use Rattle.script_lines.specs.Script.{IsFaultAt}
+use Rattle.upstream_script.specs.Texts.{upstream_script_text}
 use Rattle.amt_command.specs.Task.{Task, Work, making, reading, replay_task, serving}
 
--- relay, gateway and pair scripts, each with the text of its run
+-- relay, gateway and pair scripts, each with the text of its run, and relay scripts with what the relay tells its own
+-- network besides
 abbrev pub relay_task : Task RelayScript
 relay_task = replay_task relay_kind relay_script_text
 
@@ -20,6 +22,9 @@ gateway_task = replay_task gateway_kind gateway_script_text
 
 abbrev pub pair_task : Task PairScript
 pair_task = replay_task pair_kind pair_script_text
+
+abbrev pub upstream_task : Task RelayScript
+upstream_task = replay_task relay_kind upstream_script_text
 
 -- lines of hexadecimal digits, with the text of their messages
 abbrev pub dump_task : Task (List ℕ)
@@ -34,6 +39,7 @@ abbrev pub work_of : Command → Work
 work_of (Replay Relay) = reading RelayScript relay_task
 work_of (Replay Gateway) = reading GatewayScript gateway_task
 work_of (Replay Pair) = reading PairScript pair_task
+work_of (Replay Upstream) = reading RelayScript upstream_task
 work_of Dump = reading (List ℕ) dump_task
 work_of Vectors = reading SuiteReport vectors_task
 work_of (Load seed count) = making (load_text (summary_of (load_script_of seed count)))

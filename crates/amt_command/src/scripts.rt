@@ -1,6 +1,6 @@
 //! Scripts are replayed: each kind is read and run by its own crate. It knows no line.
 
-ghost use Rattle.amt_command.specs.Command.{gateway_task, pair_task, relay_task};
+ghost use Rattle.amt_command.specs.Command.{gateway_task, pair_task, relay_task, upstream_task};
 
 use crate::task::HasTask;
 use amt_ports::Sink;
@@ -10,6 +10,7 @@ use gateway_script::{GatewayScript, read_gateway_script, run_gateway_script};
 use pair_script::{PairScript, read_pair_script, run_pair_script};
 use script_lines::{RunFault, ScriptError};
 use std::alloc::{AllocError, Global};
+use upstream_script::run_upstream_script;
 
 /// Relay scripts.
 #[derive(Drop)]
@@ -86,5 +87,31 @@ impl HasTask for PairReplay {
 
     fn write<O: Sink>(alloc: Global, script: &PairScript, out: &mut O) -> Result<(), RunFault> {
         run_pair_script(alloc, script, out)
+    }
+}
+
+/// Relay scripts, with what the relay tells its own network.
+#[derive(Drop)]
+pub struct UpstreamReplay {}
+
+impl HasTask for UpstreamReplay {
+    ghost use Rattle.amt_script.specs.Running.{IsRunnable};
+
+    type Value = RelayScript;
+
+    ghost task = { upstream_task };
+
+    ghost CanWrite = { λ script. IsRunnable script };
+
+    fn read(alloc: Global, bytes: &[u8]) -> Result<RelayScript, ScriptError> {
+        read_relay_script(alloc, bytes)
+    }
+
+    fn difference(_alloc: Global, _script: &RelayScript) -> Result<Option<Bytes>, AllocError> {
+        Ok(None)
+    }
+
+    fn write<O: Sink>(alloc: Global, script: &RelayScript, out: &mut O) -> Result<(), RunFault> {
+        run_upstream_script(alloc, script, out)
     }
 }

@@ -12,7 +12,7 @@ use crate::exit::Exit;
 use crate::gateway::serve_gateway_file;
 use crate::relay::serve_relay_file;
 use crate::running::{run_task, write_load};
-use crate::scripts::{GatewayReplay, PairReplay, RelayReplay};
+use crate::scripts::{GatewayReplay, PairReplay, RelayReplay, UpstreamReplay};
 use crate::texts::{Dump, Vectors};
 use amt_ports::{Files, Sink, Source, write_all_own};
 use amt_words::{Command, Replayable, WordsFault, read_words};
@@ -36,6 +36,7 @@ fn replay<S: Source, O: Sink>(
         Replayable::Relay => run_task::<RelayReplay, S, O>(alloc, input, out),
         Replayable::Gateway => run_task::<GatewayReplay, S, O>(alloc, input, out),
         Replayable::Pair => run_task::<PairReplay, S, O>(alloc, input, out),
+        Replayable::Upstream => run_task::<UpstreamReplay, S, O>(alloc, input, out),
     }
 }
 
