@@ -1,8 +1,8 @@
-use Rattle.std.proofs.Common.{◌≡◌, List, Option, Some, IfOk, refl, sym, ap, subst, ◌∙◌}
+use Rattle.std.proofs.Common.{◌≡◌, List, Option, Some, IfOk, sym, ap, subst, ◌∙◌}
 use Rattle.std.specs.{List.{filter}, Option.{unwrap_or}}
-use Rattle.amt_values.specs.{declared.address.Ip.{Ip}, EndpointValue.{EndpointValue}}
+use Rattle.amt_values.specs.{declared.address.Ip.{Ip}}
 use Rattle.source_filter.specs.{Filter.{FilterValue}, declared.mode.Mode.TheVariants.{Exclude}}
-use Rattle.amt_upstream.specs.{Counting.{number}, Looking.{is_common}, declared.count_key.Counted.TheVariants.{Excluder}}
+use Rattle.amt_upstream.specs.{Looking.{is_common}}
 use Rattle.amt_upstream.proofs.JoinedByNumbers.{HasExcluding, excluder-found, excludes-none, joined-common}
 use Rattle.amt_upstream.proofs.upstream.excluding_filter.Goals as goal
 use Rattle.amt_upstream.proofs.upstream.excluding_filter.Goals.{In-Some}
