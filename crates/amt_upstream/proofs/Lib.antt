@@ -1,3 +1,4 @@
+pub mod CountedKeys
 pub mod ExcluderRange
 pub mod GroupRange
 pub mod JoinedByNumbers

@@ -1,5 +1,5 @@
 -- How memberships are counted. No public contract says these words.
-use Rattle.std.specs.{Prelude.{◌≡◌, ℕ, ◌+◌, ◌*◌, ◌≤◌, zero, suc, Bool, false, List, [], ◌∷◌, map, Option, Some, None}, BTreeMap.{BTreeMap, get}, List.{count_by, flat_map, AllByRecursion}, Option.{unwrap_or}, Ordering.{eq_by_cmp, nat_cmp, on, then_cmp}, declared.cmp.Ordering.{Ordering, TheVariants.{Less, Equal, Greater}}}
+use Rattle.std.specs.{Prelude.{◌≡◌, ℕ, ◌+◌, ◌-◌, ◌*◌, ◌≤◌, zero, suc, Bool, true, false, List, [], ◌∷◌, map, Option, Some, None, is_some}, BTreeMap.{BTreeMap, get}, List.{count_by, flat_map, AllByRecursion}, Option.{unwrap_or}, Ordering.{eq_by_cmp, nat_cmp, on, then_cmp}, declared.cmp.Ordering.{Ordering, TheVariants.{Equal}}}
 use Rattle.amt_values.specs.{declared.address.Ip.{Ip}, Order.{endpoint_order, ip_order}, EndpointValue.{EndpointValue}, Ascending.{IsAscending, has}}
 use Rattle.source_filter.specs.{Filter.{FilterValue}, declared.mode.Mode.{Mode, TheVariants.{Include, Exclude}}}
 use Rattle.endpoint_membership.specs.{Membership.{Membership}, Table.{AreLawful, IsWithinLimits, TableValue}, declared.membership_change.MembershipChange.{MembershipChange}}
@@ -26,6 +26,15 @@ counted_order = then_cmp (on rank nat_cmp) same_rank_order
 -- by group, then by what is counted
 abbrev pub key_order : CountKey → CountKey → Ordering
 key_order = then_cmp (on (λ key. key.group) ip_order) (on (λ key. key.counted) counted_order)
+
+-- how a source of a filter of this mode counts
+abbrev pub counted_by : Mode → Ip → Counted
+counted_by Include source = Including source
+counted_by Exclude source = Excluding source
+
+-- what it is counted by in the group
+abbrev pub source_key : Mode → Ip → Ip → CountKey
+source_key mode group source = record { group = group; counted = counted_by mode source }
 
 -- what an endpoint's filter of the group is counted by, by mode and list
 abbrev pub keys_by : Mode → Ip → EndpointValue → List Ip → List CountKey
@@ -94,6 +103,37 @@ HasMoved added removed before after = (key : CountKey) → number after key + ti
 -- what is kept is the same
 abbrev pub HasSame : Numbers → Numbers → Type 0
 HasSame before after = (key : CountKey) → entry_at after key ≡ entry_at before key
+
+-- what is kept of a key once n more are counted
+abbrev pub raised : ℕ → Option ℕ → Option ℕ
+raised n None = some_unless_zero n
+raised n (Some number) = Some (number + n)
+
+-- and once n less are, which leaves 0 where it is
+abbrev pub lowered : ℕ → Option ℕ → Option ℕ
+lowered n None = None
+lowered n (Some number) = Some (number - n)
+
+-- and once a 0 is swept away
+abbrev pub swept : Bool → Option ℕ → Option ℕ
+swept false entry = entry
+swept true entry = some_unless_zero (unwrap_or entry 0)
+
+-- these keys were counted in
+abbrev pub HasRaised : List CountKey → Numbers → Numbers → Type 0
+HasRaised keys before after = (key : CountKey) → entry_at after key ≡ raised (times key keys) (entry_at before key)
+
+-- these keys were counted out
+abbrev pub HasLowered : List CountKey → Numbers → Numbers → Type 0
+HasLowered keys before after = (key : CountKey) → entry_at after key ≡ lowered (times key keys) (entry_at before key)
+
+-- those of these keys that are at 0 were swept away
+abbrev pub HasSwept : List CountKey → Numbers → Numbers → Type 0
+HasSwept keys before after = (key : CountKey) → entry_at after key ≡ swept (has key_order keys key) (entry_at before key)
+
+-- each of these keys has a number, if it be 0
+abbrev pub AreThere : List CountKey → Numbers → Type 0
+AreThere keys tally = (key : CountKey) → has key_order keys key ≡ true → is_some (entry_at tally key) ≡ true
 
 -- each membership lists each source once, ascending
 abbrev pub AreInOrder : List Membership → Type 0
