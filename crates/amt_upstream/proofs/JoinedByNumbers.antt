@@ -1,9 +1,9 @@
 -- What the joined filter of a group is, by the numbers of the memberships.
 use Rattle.std.{proofs.{Common.{◌≡◌, ◌≤◌, ℕ, ◌+◌, ◌==◌, nat_lt, Bool, true, false, not, cond, ◌&&◌, ◌||◌, List, [], ◌∷◌, ◌++◌, map, Option, Some, None, refl, sym, ap, subst, ◌∙◌, arith, zero-add, ⊎_elim}, Math.Bool.{or-false}, lemmas.{Bool.{and_from, and_parts, cases_Bool, lt-ltb, or_left, or_right, Decides.{nat_tests}}, Cmp.{tied_itself}, List.{Sums.{sum_by-cons}}, Map.Keys.{sorted_tail}}}, specs.{List.{AllByRecursion, count_by, filter, list_any}, Option.{option_map}, Ordering.{is_eq}}}
-use Rattle.amt_values.{specs.{declared.address.Ip.{Ip}, Order.{ip_order}, EndpointValue.{EndpointValue}, Ascending.{IsAscending, ascending, has, intersection}}, proofs.{Orders.{endpoint_order-total, ip_order-exact, ip_order-total}, AscendingLaws.{IsAscending-ascending, IsAscending-filter, has-ascending, has-filter, has-intersection, same_ascending}}}
+use Rattle.amt_values.{specs.{declared.address.Ip.{Ip}, Order.{ip_order}, EndpointValue.{EndpointValue}, Ascending.{IsAscending, has, intersection}}, proofs.{Orders.{endpoint_order-total, ip_order-exact, ip_order-total}, AscendingLaws.{IsAscending-ascending, IsAscending-filter, has-ascending, has-filter, has-intersection, same_ascending}}}
 use Rattle.source_filter.{specs.{Filter.{FilterValue, admits, admits_by, ascending_sources}, Merging.{all_sources, common_sources, exclude_list, exclude_lists, include_lists, intersection_of, merged_by, union_of}, Record.{lists}, declared.mode.Mode.{Mode, TheVariants.{Include, Exclude}}}, proofs.{MergedFilters.{admits-merged}, SourceSets.{listing}}}
 use Rattle.endpoint_membership.{specs.{EndpointGroup.{EndpointGroup, same_endpoint, same_endpoint_group, same_group}, Membership.{Membership, endpoint_group_of, membership_order}, Memberships.{membership_in}, MembershipChanges.{filter_at}}, proofs.{EndpointGroupOrder.{same_endpoint_group-is}, MembershipIn.{none_later}, ReportBounds.{All-at}}}
-use Rattle.amt_upstream.{specs.{Counting.{AreInOrder, AreNumbers, Numbers, keys_in, number, times}, Looking.{excludes, is_common, is_included, seen, seen_by}, Upstream.{filters_on, joined}, declared.count_key.Counted.{Counted, TheVariants.{Excluders, Excluder, Excluding, Including}}}, proofs.{KeyCounts.{counts, is_counted, times-rows}, KeyOrder.{key_on}}}
+use Rattle.amt_upstream.{specs.{Counting.{AreInOrder, AreNumbers, Numbers, number}, Looking.{excludes, is_common, is_included, seen, seen_by}, Upstream.{filters_on, joined}, declared.count_key.Counted.{Counted, TheVariants.{Excluders, Excluder, Excluding, Including}}}, proofs.{KeyCounts.{counts, is_counted, times-rows}, KeyOrder.{key_on}}}
 
 -- the pair of an endpoint and a group
 abbrev pub pair : EndpointValue → Ip → EndpointGroup

@@ -1,9 +1,9 @@
 -- How the filter of a group is found by numbers, and how much of it is looked at. No public contract says these words.
-use Rattle.std.specs.{Prelude.{◌≡◌, ℕ, ◌==◌, nat_lt, Bool, true, false, ◌&&◌, List, [], ◌++◌, map, Option, Some, None, if◌then◌else◌}, List.{filter, flat_map}}
+use Rattle.std.specs.{Prelude.{◌≡◌, ℕ, ◌==◌, nat_lt, Bool, ◌&&◌, List, [], ◌++◌, map, Option, Some, None, if◌then◌else◌}, List.{filter, flat_map}}
 use Rattle.amt_values.specs.{declared.address.Ip.{Ip}, EndpointValue.{EndpointValue}, Order.{ip_order}, Ascending.{ascending, intersection}}
 use Rattle.source_filter.specs.{Filter.{FilterValue}, declared.mode.Mode.{Mode, TheVariants.{Include, Exclude}}}
 use Rattle.endpoint_membership.specs.{EndpointGroup.{same_group}, Membership.{Membership}, declared.membership_change.MembershipChange.{MembershipChange}}
-use Rattle.amt_upstream.specs.{Counting.{Numbers, number}, Upstream.{joined}, declared.{count_key.{CountKey.{CountKey}, Counted.{Counted, TheVariants.{Excluders, Excluder, Excluding, Including}}}, sides.Side.{Side}}}
+use Rattle.amt_upstream.specs.{Counting.{Numbers, number}, Upstream.{joined}, declared.{count_key.{Counted.{Counted, TheVariants.{Excluders, Excluder, Excluding, Including}}}, sides.Side.{Side}}}
 
 -- some membership excludes
 abbrev pub excludes : Numbers → Ip → Bool
