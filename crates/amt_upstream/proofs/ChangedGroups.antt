@@ -3,7 +3,7 @@ use Rattle.std.{proofs.{Common.{◌≡◌, Bool, true, false, not, cond, ◌&&�
 use Rattle.amt_values.{specs.{declared.address.Ip.{Ip}, Order.{ip_order}, Ascending.{IsAscending, difference, has}}, proofs.{Orders.{ip_order-exact, ip_order-total}, AscendingLaws.{IsAscending-ascending, IsAscending-filter, has-append, has-ascending, has-difference, has-filter, same_ascending}}}
 use Rattle.source_filter.specs.{Changes.{changes_by, changes_on, record_of_some}, Merging.{merged}, Record.{lists}, declared.mode.Mode.{Mode, TheVariants.{Include, Exclude}}, declared.record.{RecordKind.TheVariants.{Allow, Block}}}
 use Rattle.endpoint_membership.{specs.{EndpointGroup.{EndpointGroup, same_endpoint, same_endpoint_group, same_group}, Membership.{Membership, membership_order}, MembershipChanges.{AreChanges, IsChange, changed_pair, changes_pair, filter_at}, declared.membership_change.MembershipChange.{MembershipChange}}, proofs.EndpointGroupOrder.{endpoint_group_order-exact, same_endpoint_group-is}}
-use Rattle.amt_upstream.{specs.{Looking.{changed_groups, changes_on_group, named_by, seen, seen_after, sources_if}, Upstream.{changed_on, changes_between, filters_on, groups_in, joined}}, proofs.{GroupFilters.{IsUnion-merged, filters_on-none, filters_on-same, some_lists-same}, Narrowed.{Agree, AgreeWhereIncluded, changes_on-seen}}}
+use Rattle.amt_upstream.{specs.{Looking.{changed_groups, changes_on_group, named_by, seen, seen_after, sources_if}, Upstream.{changed_on, changes_between, filters_on, groups_in, joined}}, proofs.{GroupFilters.{IsUnion-merged, filters_on-none, filters_on-same, some_lists-same}, Narrowed.{Agree, changes_on-seen}}}
 
 -- ---- lists by group
 
@@ -43,12 +43,6 @@ difference-itself sources = none (difference ip_order sources sources) (λ sourc
 unchanged_by : (mode : Mode) (sources : List Ip) (group : Ip) → changes_by mode mode group sources sources ≡ []
 unchanged_by Include sources group = ap (λ (left : List Ip). record_of_some Allow group left ++ record_of_some Block group left) (difference-itself sources)
 unchanged_by Exclude sources group = ap (λ (left : List Ip). record_of_some Allow group left ++ record_of_some Block group left) (difference-itself sources)
-
-agree_by : (old_mode new_mode : Mode) (named old new : List Ip) → (old_mode ≡ Include → new_mode ≡ Include → Agree named old new) → AgreeWhereIncluded old_mode new_mode named old new
-agree_by Include Include named old new agree = agree refl refl
-agree_by Include Exclude named old new agree = tt
-agree_by Exclude Include named old new agree = tt
-agree_by Exclude Exclude named old new agree = tt
 
 -- ---- what the changes of a group leave as it was
 
@@ -132,5 +126,4 @@ module _ (before after : List Membership) where
     pub changed_on-seen : (group : Ip) (named : List Ip) → named ≡ named_by (changes_on_group group changes)
         → changes_on (seen named (joined before group)) (seen_after (joined before group).mode named (joined after group)) group ≡ changed_on before after group
     changed_on-seen group named are_named =
-        rw are_named (changes_on-seen (named_by (changes_on_group group changes)) (joined before group) (joined after group) group
-        (agree_by (joined before group).mode (joined after group).mode (named_by (changes_on_group group changes)) (joined before group).sources (joined after group).sources (agree group)))
+        rw are_named (changes_on-seen (named_by (changes_on_group group changes)) (joined before group) (joined after group) group (agree group))

@@ -10,11 +10,6 @@ pub record Agree (named old new : List Ip) : Type 0 where
   pub new_ascends : IsAscending ip_order new
   pub each : (source : Ip) → has ip_order named source ≡ false → has ip_order old source ≡ has ip_order new source
 
--- so it is between two INCLUDE lists
-abbrev pub AgreeWhereIncluded : Mode → Mode → List Ip → List Ip → List Ip → Type 0
-AgreeWhereIncluded Include Include named old new = Agree named old new
-AgreeWhereIncluded old_mode new_mode named old new = Unit {0}
-
 missed_by : (named some others : Bool) → (named ≡ false → others ≡ some) → ((some && named) && not (others && named)) ≡ (some && not others)
 missed_by true true true agree = refl
 missed_by true true false agree = refl
@@ -38,18 +33,19 @@ missed named some others ascends each =
     ∙ missed_by (has ip_order named source) (has ip_order some source) (has ip_order others source) (each source)
     ∙ sym (has-difference ip_order-exact some others source))
 
-narrowed_by : (old_mode new_mode : Mode) (named old new : List Ip) (group : Ip) → AgreeWhereIncluded old_mode new_mode named old new
+narrowed_by : (old_mode new_mode : Mode) (named old new : List Ip) (group : Ip) → (old_mode ≡ Include → new_mode ≡ Include → Agree named old new)
     → changes_on (seen named (listing old_mode old)) (seen_after old_mode named (listing new_mode new)) group ≡ changes_by old_mode new_mode group old new
 narrowed_by Include Include named old new group agree =
+    let both = agree refl refl in
     ap (λ (more : List Ip). record_of_some Allow group more ++ record_of_some Block group (difference ip_order (intersection ip_order old named) (intersection ip_order new named)))
-    (missed named new old agree.new_ascends agree.each)
+    (missed named new old both.new_ascends both.each)
     ∙ ap (λ (fewer : List Ip). record_of_some Allow group (difference ip_order new old) ++ record_of_some Block group fewer)
-    (missed named old new agree.old_ascends (λ source apart. sym (agree.each source apart)))
+    (missed named old new both.old_ascends (λ source apart. sym (both.each source apart)))
 narrowed_by Include Exclude named old new group agree = refl
 narrowed_by Exclude Include named old new group agree = refl
 narrowed_by Exclude Exclude named old new group agree = refl
 
 -- the records by what is looked at are those by the whole filters
-pub changes_on-seen : (named : List Ip) (before after : FilterValue) (group : Ip) → AgreeWhereIncluded before.mode after.mode named before.sources after.sources
+pub changes_on-seen : (named : List Ip) (before after : FilterValue) (group : Ip) → (before.mode ≡ Include → after.mode ≡ Include → Agree named before.sources after.sources)
     → changes_on (seen named before) (seen_after before.mode named after) group ≡ changes_on before after group
 changes_on-seen named before after group agree = narrowed_by before.mode after.mode named before.sources after.sources group agree
