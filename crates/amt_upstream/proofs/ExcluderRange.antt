@@ -1,8 +1,8 @@
 -- The counts of the endpoints that exclude, which a walk over a range of keys goes over.
 use Rattle.std.{proofs.{Common.{◌≡◌, ◌<◌, ◌≤◌, ℕ, Bor, Bool, true, false, not, ◌&&◌, List, All, Option, Some, None, is_some, IfSome, IfNone, refl, sym, ap, subst, ◌∙◌, arith}, lemmas.{Bool.{and_from, and_parts}, Cmp.{tied_itself}, Map.{Entries.{All-lookup, lookup-filter-keys}, Views.{All-turn, range_contains-from_IsInRange, tells_apart}}}}, specs.{BTreeMap.{get, is_at, Range.{IsEntryInRange, IsRangeOf, entries_between, range_contains}}, Iterator.{Yields}, Map.{lookup, Iter.{TakesFirst, deref_pair}}, Option.{unwrap_or}, Ordering.{is_eq, is_le, nat_cmp, ordering_then}, declared.{cmp.Ordering.{Ordering, TheVariants.{Less, Equal, Greater}}, ops.Bound.{Bound, TheVariants.{Included, Excluded}}}}}
-use Rattle.amt_values.{specs.{declared.address.Ip.{Ip, TheVariants.{V4}}, Order.{endpoint_order, ip_order}, EndpointValue.{EndpointValue}}, proofs.Orders.{ip_order-exact, ip_order-total}}
+use Rattle.amt_values.{specs.{declared.address.Ip.{Ip, TheVariants.{V4}}, Order.{ip_order}, EndpointValue.{EndpointValue}}, proofs.Orders.{ip_order-exact, ip_order-total}}
 use Rattle.endpoint_membership.{specs.EndpointGroup.{same_group}, proofs.KeysTogether.{least_number}}
-use Rattle.amt_upstream.{specs.{Counting.{Numbers, counted_order, key_order, number}, Looking.{excluding_endpoint}, declared.count_key.{CountKey.{CountKey}, Counted.{Counted, TheVariants.{Excluders, Excluder, Excluding, Including}}}}, proofs.{GroupRange.{least_source}, KeyOrder.{key_on, key_order-total, keys_compared, same_key-is}}}
+use Rattle.amt_upstream.{specs.{Counting.{Numbers, counted_order, key_order, number}, Looking.{excluding_endpoint}, declared.count_key.{CountKey.{CountKey}, Counted.{Counted, TheVariants.{Excluders, Excluder, Excluding, Including}}}}, proofs.{GroupRange.{least_source}, KeyOrder.{key_on, key_order-total, same_key-is}}}
 
 abbrev least_endpoint : EndpointValue
 least_endpoint = record { address = 0; port = 0 }

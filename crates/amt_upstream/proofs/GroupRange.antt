@@ -1,9 +1,9 @@
 -- The counts of a group that a walk over a range of keys goes over.
-use Rattle.std.{proofs.{Common.{◌≡◌, ◌≤◌, ℕ, nat_lt, Bor, Bool, true, false, not, cond, ◌&&◌, ◌||◌, List, [], ◌∷◌, ◌++◌, map, All, Option, Some, None, Result, Ok, Err, IfOk, IfSome, IfNone, refl, sym, ap, subst, ◌∙◌, arith}, lemmas.{Bool.{and_parts}, Cmp.{eq_by_cmp_equiv, tied_itself}, List.{append-nil, map-append, Elements.{filter_map-append}, Kept.{IsStrictlySortedBy-filter}}, Map.{lookup-none, Entries.{All-lookup, lookup-filter-keys, none_past_head}, Keys.{IsDistinct-from_sorted, IsDistinct-tail}}}}, specs.{BTreeMap.{IsOrdered, get, is_at, Range.{entries_between, range_contains}}, List.{AllByRecursion, IsDistinct, cons_option, filter, filter_map, Sorted.{IsStrictlySortedBy}}, Map.{keys_of, lookup, Iter.{deref_pair}}, Option.{option_to_list, unwrap_or}, Ordering.{eq_by_cmp, is_eq, is_le, ordering_then}, declared.{cmp.Ordering.{Ordering, TheVariants.{Less, Equal, Greater}}, ops.Bound.TheVariants.{Included, Excluded, Unbounded}}}}
-use Rattle.amt_values.{specs.{declared.address.Ip.{Ip, TheVariants.{V4, V6}}, Order.{endpoint_order, ip_order}, EndpointValue.{EndpointValue}, Ascending.{IsAscending, ascending, has}}, proofs.{Orders.{ip_order-exact, ip_order-total}, AscendingLaws.{IsAscending-ascending, IsAscending-filter, has-ascending, has-filter, same_ascending}}}
+use Rattle.std.{proofs.{Common.{◌≡◌, ℕ, nat_lt, Bor, Bool, true, false, cond, ◌&&◌, ◌||◌, List, [], ◌∷◌, ◌++◌, map, Option, Some, None, Result, Ok, Err, IfOk, refl, sym, ap, subst, ◌∙◌}, lemmas.{Cmp.{eq_by_cmp_equiv, tied_itself}, List.{append-nil, map-append, Elements.{filter_map-append}, Kept.{IsStrictlySortedBy-filter}}, Map.{lookup-none, Entries.{lookup-filter-keys, none_past_head}, Keys.{IsDistinct-from_sorted, IsDistinct-tail}}}}, specs.{BTreeMap.{IsOrdered, is_at, Range.{entries_between, range_contains}}, List.{AllByRecursion, IsDistinct, cons_option, filter, filter_map, Sorted.{IsStrictlySortedBy}}, Map.{keys_of, lookup, Iter.{deref_pair}}, Option.{option_to_list, unwrap_or}, Ordering.{eq_by_cmp, is_le, ordering_then}, declared.{cmp.Ordering.{Ordering}, ops.Bound.TheVariants.{Included, Unbounded}}}}
+use Rattle.amt_values.{specs.{declared.address.Ip.{Ip, TheVariants.{V4, V6}}, Order.{ip_order}, Ascending.{IsAscending, has}}, proofs.{Orders.{ip_order-exact, ip_order-total}, AscendingLaws.{IsAscending-ascending, IsAscending-filter, has-ascending, has-filter, same_ascending}}}
 use Rattle.source_filter.{specs.{Filter.{FilterValue, ascending_sources}, Record.{lists}, declared.mode.Mode.{Mode, TheVariants.{Include}}}, proofs.SourceSets.{listing}}
-use Rattle.endpoint_membership.{specs.{EndpointGroup.{same_group}, Membership.{Membership}}, proofs.{FilterMap.{same_group-back}, KeysTogether.{least_number, others}}}
-use Rattle.amt_upstream.{specs.{Counting.{AreInOrder, AreNumbers, Numbers, counted_order, entry_at, key_order, number, same_key}, Looking.{excludes, excluding_endpoint, included_source, is_included}, Upstream.{joined}, declared.count_key.{CountKey.{CountKey}, Counted.{Counted, TheVariants.{Excluders, Excluder, Excluding, Including}}}}, proofs.{JoinedByNumbers.{joined-included}, KeyCounts.{same_key-by}, KeyOrder.{key_on, key_order-exact, key_order-total, same_key-is}}}
+use Rattle.endpoint_membership.{specs.{EndpointGroup.{same_group}, Membership.{Membership}}, proofs.{KeysTogether.{least_number, others}}}
+use Rattle.amt_upstream.{specs.{Counting.{AreInOrder, AreNumbers, Numbers, counted_order, key_order, number}, Looking.{excludes, included_source, is_included}, Upstream.{joined}, declared.count_key.{CountKey.{CountKey}, Counted.{Counted, TheVariants.{Including}}}}, proofs.{JoinedByNumbers.{joined-included}, KeyCounts.{same_key-by}, KeyOrder.{key_on, key_order-total, same_key-is}}}
 
 -- ---- filters that are made of a list
 

@@ -1,9 +1,9 @@
 -- What the joined filter of a group is, by the numbers of the memberships.
 use Rattle.std.{proofs.{Common.{◌≡◌, ◌≤◌, ℕ, ◌+◌, ◌==◌, nat_lt, Bool, true, false, not, cond, ◌&&◌, ◌||◌, List, [], ◌∷◌, ◌++◌, map, Option, Some, None, refl, sym, ap, subst, ◌∙◌, arith, zero-add, ⊎_elim}, Math.Bool.{or-false}, lemmas.{Bool.{and_from, and_parts, cases_Bool, lt-ltb, or_left, or_right, Decides.{nat_tests}}, Cmp.{tied_itself}, List.{Sums.{sum_by-cons}}, Map.Keys.{sorted_tail}}}, specs.{List.{AllByRecursion, count_by, filter, list_any}, Option.{option_map}, Ordering.{is_eq}}}
-use Rattle.amt_values.{specs.{declared.address.Ip.{Ip}, Order.{ip_order}, EndpointValue.{EndpointValue}, Ascending.{IsAscending, ascending, has, intersection}}, proofs.{Orders.{endpoint_order-total, ip_order-exact, ip_order-total}, AscendingLaws.{IsAscending-ascending, IsAscending-filter, has-ascending, has-filter, has-intersection, same_ascending}}}
+use Rattle.amt_values.{specs.{declared.address.Ip.{Ip}, Order.{ip_order}, EndpointValue.{EndpointValue}, Ascending.{IsAscending, has, intersection}}, proofs.{Orders.{endpoint_order-total, ip_order-exact, ip_order-total}, AscendingLaws.{IsAscending-ascending, IsAscending-filter, has-ascending, has-filter, has-intersection, same_ascending}}}
 use Rattle.source_filter.{specs.{Filter.{FilterValue, admits, admits_by, ascending_sources}, Merging.{all_sources, common_sources, exclude_list, exclude_lists, include_lists, intersection_of, merged_by, union_of}, Record.{lists}, declared.mode.Mode.{Mode, TheVariants.{Include, Exclude}}}, proofs.{MergedFilters.{admits-merged}, SourceSets.{listing}}}
 use Rattle.endpoint_membership.{specs.{EndpointGroup.{EndpointGroup, same_endpoint, same_endpoint_group, same_group}, Membership.{Membership, endpoint_group_of, membership_order}, Memberships.{membership_in}, MembershipChanges.{filter_at}}, proofs.{EndpointGroupOrder.{same_endpoint_group-is}, MembershipIn.{none_later}, ReportBounds.{All-at}}}
-use Rattle.amt_upstream.{specs.{Counting.{AreInOrder, AreNumbers, Numbers, keys_in, number, times}, Looking.{excludes, is_common, is_included, seen, seen_by}, Upstream.{filters_on, joined}, declared.count_key.Counted.{Counted, TheVariants.{Excluders, Excluder, Excluding, Including}}}, proofs.{KeyCounts.{counts, is_counted, times-rows}, KeyOrder.{key_on}}}
+use Rattle.amt_upstream.{specs.{Counting.{AreInOrder, AreNumbers, Numbers, number}, Looking.{excludes, is_common, is_included, seen, seen_by}, Upstream.{filters_on, joined}, declared.count_key.Counted.{Counted, TheVariants.{Excluders, Excluder, Excluding, Including}}}, proofs.{KeyCounts.{counts, is_counted, times-rows}, KeyOrder.{key_on}}}
 
 -- the pair of an endpoint and a group
 abbrev pub pair : EndpointValue → Ip → EndpointGroup
@@ -28,6 +28,15 @@ counted_in rows group counted = count_by (is_counted group counted) rows
 
 more_counted : (group : Ip) (counted : Counted) (first : Membership) (rest : List Membership) → counted_in (first ∷ rest) group counted ≡ cond (is_counted group counted first) 1 0 + counted_in rest group counted
 more_counted group counted first rest = sum_by-cons (λ (membership : Membership). cond (is_counted group counted membership) 1 0) first rest
+
+map-cond : (here : Bool) (first : Membership) (rest : List Membership)
+    → map (λ membership. membership.filter) (cond here (first ∷ rest) rest) ≡ cond here (first.filter ∷ map (λ membership. membership.filter) rest) (map (λ membership. membership.filter) rest)
+map-cond true first rest = refl
+map-cond false first rest = refl
+
+-- the filters of the group with one membership more
+filters_on-more : (group : Ip) (first : Membership) (rest : List Membership) → filters_on group (first ∷ rest) ≡ cond (same_group group first.group) (first.filter ∷ filters_on group rest) (filters_on group rest)
+filters_on-more group first rest = map-cond (same_group group first.group) first (filter (λ membership. same_group group membership.group) rest)
 
 -- some of the filters lets the source in
 abbrev admitting : Ip → List FilterValue → Bool
@@ -75,8 +84,7 @@ module _ (group source : Ip) where
   excluding_row true endpoint Exclude sources is = refl
   excluding_row false endpoint mode sources is = cc
 
-  any_by : (here : Bool) (first : Membership) (rest : List Membership)
-      → admitting source (map (λ membership. membership.filter) (cond here (first ∷ rest) rest)) ≡ ((here && admits first.filter source) || admitting source (map (λ membership. membership.filter) rest))
+  any_by : (here : Bool) (first : FilterValue) (rest : List FilterValue) → admitting source (cond here (first ∷ rest) rest) ≡ ((here && admits first source) || admitting source rest)
   any_by true first rest = refl
   any_by false first rest = refl
 
@@ -84,7 +92,7 @@ module _ (group source : Ip) where
   decided [] = record { within = omega arith; admitted = refl }
   decided (first ∷ rest) =
       let here = same_group group first.group in
-      let any = any_by here first (filter (λ membership. same_group group membership.group) rest)
+      let any = ap (admitting source) (filters_on-more group first rest) ∙ any_by here first.filter (filters_on group rest)
       ∙ ap (λ (one : Bool). one || admitting source (filters_on group rest)) (admitted_row here first.endpoint first.filter.mode first.filter.sources) in
       let implies = excluding_row here first.endpoint first.filter.mode first.filter.sources in
       let so_far = decided rest in
@@ -105,23 +113,11 @@ merged-mode : (excluded : List (List Ip)) (included : List Ip) → (merged_by (i
 merged-mode [] included = refl
 merged-mode (first ∷ more) included = refl
 
-more_some : (number : ℕ) → true ≡ nat_lt 0 (1 + number)
-more_some number = sym (lt-ltb 0 (1 + number) (omega arith))
-
 some_row : (here : Bool) (mode : Mode) (endpoint : EndpointValue) (sources : List Ip) (rest : List FilterValue) (number : ℕ) → has_some (exclude_lists rest) ≡ nat_lt 0 number
     → has_some (exclude_lists (cond here (record { mode = mode; sources = sources } ∷ rest) rest)) ≡ nat_lt 0 (cond (here && counts Excluders endpoint mode sources) 1 0 + number)
 some_row true Include endpoint sources rest number so_far = so_far ∙ sym (none_more number)
-some_row true Exclude endpoint sources rest number so_far = more_some number
+some_row true Exclude endpoint sources rest number so_far = sym (lt-ltb 0 (1 + number) (omega arith))
 some_row false mode endpoint sources rest number so_far = so_far ∙ sym (none_more number)
-
-map-cond : (here : Bool) (first : Membership) (rest : List Membership)
-    → map (λ membership. membership.filter) (cond here (first ∷ rest) rest) ≡ cond here (first.filter ∷ map (λ membership. membership.filter) rest) (map (λ membership. membership.filter) rest)
-map-cond true first rest = refl
-map-cond false first rest = refl
-
--- the filters of the group with one membership more
-filters_on-more : (group : Ip) (first : Membership) (rest : List Membership) → filters_on group (first ∷ rest) ≡ cond (same_group group first.group) (first.filter ∷ filters_on group rest) (filters_on group rest)
-filters_on-more group first rest = map-cond (same_group group first.group) first (filter (λ membership. same_group group membership.group) rest)
 
 some_excluded : (group : Ip) (rows : List Membership) → has_some (exclude_lists (filters_on group rows)) ≡ nat_lt 0 (counted_in rows group Excluders)
 some_excluded group [] = refl

@@ -1,5 +1,5 @@
 -- How often a key is among those of memberships: once for each membership that it counts.
-use Rattle.std.{proofs.{Common.{◌≡◌, ℕ, ◌+◌, Bool, true, false, cond, ◌&&◌, ◌||◌, List, [], ◌∷◌, map, refl, sym, ap, ◌∙◌, arith, zero-add}, lemmas.{Bool.{or_from}, List.{Folds.{fold-map}, Sums.{sum_by-append, sum_by-cons, sum_by_from}}, Map.{Keys.{sorted_head, sorted_tail}, Views.{tells_apart}}}}, specs.{Cmp.{tied_then}, List.{AllByRecursion, count_by}, Ordering.{eq_by_cmp, is_eq}, declared.cmp.Ordering.{TheVariants.{Less}}}}
+use Rattle.std.{proofs.{Common.{◌≡◌, ℕ, ◌+◌, Bool, true, false, cond, ◌&&◌, ◌||◌, List, [], ◌∷◌, map, refl, sym, ap, ◌∙◌, arith, zero-add}, lemmas.{Bool.{and_right, or_from}, List.{Folds.{fold-map}, Sums.{sum_by-append, sum_by-cons, sum_by_from}}, Map.{Keys.{sorted_head, sorted_tail}, Views.{tells_apart}}}}, specs.{Cmp.{tied_then}, List.{AllByRecursion, count_by}, Ordering.{eq_by_cmp, is_eq}, declared.cmp.Ordering.{TheVariants.{Less}}}}
 use Rattle.amt_values.{specs.{declared.address.Ip.{Ip, TheVariants.{V4}}, Order.{ip_order}, EndpointValue.{EndpointValue}, Ascending.{IsAscending, has}}, proofs.Orders.{ip_order-exact}}
 use Rattle.source_filter.specs.declared.mode.Mode.{Mode, TheVariants.{Include, Exclude}}
 use Rattle.endpoint_membership.specs.{EndpointGroup.{same_endpoint, same_group}, Membership.{Membership}}
@@ -53,11 +53,7 @@ module _ (here : Bool) (source : Ip) where
 
 -- and where it counts none of the sources
 none_made : (key : CountKey) (made : Ip → CountKey) (here : Bool) → ((one : Ip) → same_key key (made one) ≡ (here && false)) → (sources : List Ip) → IsAscending ip_order sources → times key (map made sources) ≡ 0
-none_made key made here is sources ascends = times-made false (V4 0) key made (λ one. is one ∙ never_by here) sources ascends
-  where
-    never_by : (here : Bool) → (here && false) ≡ false
-    never_by true = refl
-    never_by false = refl
+none_made key made here is sources ascends = times-made false (V4 0) key made (λ one. is one ∙ and_right here false refl) sources ascends
 
 -- what is counted is a source that is excluded
 abbrev lists_excluded : Counted → List Ip → Bool

@@ -1,7 +1,7 @@
 -- What changes are counted by moves the numbers of the memberships before to those of the memberships after.
-use Rattle.std.proofs.{Common.{◌≡◌, ℕ, ◌+◌, ◌≤◌, ◌<◌, Bool, true, false, cond, not, ◌||◌, List, [], ◌∷◌, ◌++◌, filter, length, sum_by, Option, Some, None, refl, sym, ap, subst, ◌∙◌, arith, inl, inr}, lemmas.{Bool.{cases_Bool}, Cmp.{on_total, then_total, tied_itself}, Map.Keys.{sorted_head, sorted_tail}, List.{Elements.{All-cons, All-head, All-nil, All-tail}, Filters.{sum_by-filter_both}, Sums.{sum_by-append, sum_by-cons}}}}
-use Rattle.std.specs.{Prelude.{All}, Cmp.{IsTotalOrder}, List.{AllByRecursion, flat_map}, Option.{option_map}, Ordering.{on, then_cmp}, declared.cmp.Ordering.{Ordering, TheVariants.{Less}}}
-use Rattle.amt_values.{specs.{Ascending.{IsAscending, has}, Order.{endpoint_order, ip_order}}, proofs.{AscendingLaws.{IsAscending-filter}, Orders.{endpoint_order-total, ip_order-total}}}
+use Rattle.std.proofs.{Common.{◌≡◌, ℕ, ◌+◌, ◌≤◌, Bool, true, false, cond, not, ◌||◌, List, [], ◌∷◌, filter, sum_by, Option, Some, None, refl, sym, ap, ◌∙◌, arith, inl, inr}, lemmas.{Bool.{cases_Bool}, Cmp.{on_total, then_total, tied_itself}, Map.Keys.{sorted_head, sorted_tail}, List.{Elements.{All-cons, All-head, All-nil, All-tail}, Filters.{sum_by-filter_both}, Sums.{sum_by-append, sum_by-cons}}}}
+use Rattle.std.specs.{Prelude.{All}, Cmp.{IsTotalOrder}, List.{AllByRecursion, flat_map}, Option.{option_map}, declared.cmp.Ordering.{Ordering, TheVariants.{Less}}}
+use Rattle.amt_values.{specs.{Ascending.{IsAscending}, Order.{endpoint_order, ip_order}}, proofs.{AscendingLaws.{IsAscending-filter}, Orders.{endpoint_order-total, ip_order-total}}}
 use Rattle.source_filter.specs.Filter.{FilterValue}
 use Rattle.endpoint_membership.specs.{EndpointGroup.{EndpointGroup, same_endpoint_group}, Membership.{Membership, endpoint_group_of, membership_order}, Memberships.{membership_in}, MembershipChanges.{AreChanges, IsChange, change_order, changed_pair, changes_pair, filter_at}, declared.membership_change.MembershipChange.{MembershipChange}}
 use Rattle.endpoint_membership.proofs.{MembershipIn.{membership_in-first, membership_in-where, none_later, same_endpoint_group-exact}, SetAt.{same_back}}
@@ -39,11 +39,9 @@ filter_at-first first rest = ap filter_of (membership_in-first first rest)
 
 -- ---- changes without the first one
 
-pair_order : EndpointGroup → EndpointGroup → Ordering
-pair_order = then_cmp (on (λ one. one.group) ip_order) (on (λ one. one.endpoint) endpoint_order)
-
-pair_order-itself : (change : MembershipChange) → change_order change change ≡ Less → ⊥
-pair_order-itself change less =
+-- no change comes before itself
+not_before_itself : (change : MembershipChange) → change_order change change ≡ Less → ⊥
+not_before_itself change less =
     let total : IsTotalOrder change_order = then_total (on_total (λ (one : MembershipChange). one.group) ip_order-total) (on_total (λ (one : MembershipChange). one.endpoint) endpoint_order-total) in
     let tied = tied_itself total change in cc
 
@@ -51,7 +49,7 @@ pair_order-itself change less =
 two_pairs : (first later : MembershipChange) → change_order first later ≡ Less → same_endpoint_group (changed_pair first) (changed_pair later) ≡ false
 two_pairs first later less = elim (cases_Bool (same_endpoint_group (changed_pair first) (changed_pair later))) [
   | inl same ↦ let one = same_endpoint_group-exact (changed_pair first) (changed_pair later) same in
-      absurd (pair_order-itself first (ap (λ (at : EndpointGroup). change_order first (record { group = at.group; endpoint = at.endpoint; before = None; after = None })) one ∙ less))
+      absurd (not_before_itself first (ap (λ (at : EndpointGroup). change_order first (record { group = at.group; endpoint = at.endpoint; before = None; after = None })) one ∙ less))
   | inr apart ↦ apart
 ]
 
@@ -135,7 +133,7 @@ module _ (of : EndpointGroup → Option FilterValue → ℕ) (none : (at : Endpo
   abbrev is_of : MembershipChange → ℕ
   is_of change = of (changed_pair change) change.after
 
-  -- what changes take and what they bring; and they take no more than there is
+  -- changes take the numbers before and bring those after; and they take no more than there is
   pub sums_moved : (changes : List MembershipChange) (before after : List Membership) → IsAscending membership_order before → IsAscending membership_order after → AreChanges before after changes
       → (sum_by of_row after + sum_by was_of changes ≡ sum_by of_row before + sum_by is_of changes) × (sum_by was_of changes ≤ sum_by of_row before)
   sums_moved [] before after one two are = let same = same_sum before after one two (λ at. are.others at refl) in (omega arith, omega arith)

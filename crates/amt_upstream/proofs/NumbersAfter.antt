@@ -1,10 +1,10 @@
 -- The numbers beside a table as entries come: those of its memberships, and few.
-use Rattle.std.proofs.{Common.{◌≡◌, ℕ, ◌+◌, ◌*◌, ◌≤◌, List, [], ◌∷◌, ◌++◌, filter, length, map, reverse, sum_by, Option, None, unwrap_or, refl, sym, ap, subst, ◌∙◌, arith}, Math.Nat.{mul-le-mul}, lemmas.List.{length-append, length-map, Sums.{count_by-le-length, sum_by-cons}}}
+use Rattle.std.proofs.{Common.{◌≡◌, ℕ, ◌+◌, ◌*◌, ◌≤◌, List, [], ◌∷◌, ◌++◌, filter, length, map, reverse, sum_by, Option, None, unwrap_or, sym, ap, subst, ◌∙◌, arith}, Math.Nat.{mul-le-mul}, lemmas.List.{length-append, length-map, Sums.{count_by-le-length, sum_by-cons}}}
 use Rattle.amt_values.{specs.{declared.address.Ip.{Ip}, EndpointValue.{EndpointValue}, Ascending.{IsAscending}, Order.{ip_order}}, proofs.{AscendingLaws.{IsAscending-ascending}, Orders.{ip_order-total}}}
 use Rattle.source_filter.specs.declared.mode.Mode.{Mode, TheVariants.{Include, Exclude}}
-use Rattle.endpoint_membership.specs.{GroupFilter.{is_counted_source, named_sources}, Limits.{IsWithin}, Log.{latest, live_chain}, Membership.{Membership}, Memberships.{membership_at, memberships_at, row_of}, MembershipChanges.{AreChanges}, Table.{AreLawful, ForLog, Holds, IsWithinLimits, TableSettings, TableValue, memberships_now}, declared.{change.Change.{Change}, limits.Limits.{Limits}, membership_change.MembershipChange.{MembershipChange}}}
+use Rattle.endpoint_membership.specs.{GroupFilter.{is_counted_source, named_sources}, Limits.{IsWithin}, Log.{latest, live_chain}, Membership.{Membership}, Memberships.{memberships_at, row_of}, MembershipChanges.{AreChanges}, Table.{AreLawful, ForLog, Holds, IsWithinLimits, TableSettings, TableValue, memberships_now}, declared.{change.Change.{Change}, limits.Limits.{Limits}, membership_change.MembershipChange.{MembershipChange}}}
 use Rattle.endpoint_membership.proofs.{FewRows.{AreFew-row_of}, MembershipIn.{All-from_membership_in}, MembershipsByLog.{AreMembershipsAt-memberships_at, membership_by, rows_are}}
-use Rattle.amt_upstream.specs.{Counting.{AreInOrder, AreNumbers, HasMoved, HasSame, IsClean, IsCounted, Numbers, entry_at, keys_after, keys_before, keys_by, keys_in, keys_of, number, same_key, some_unless_zero, times}, Taking.{AreChangesBy, AreNumbersAfter}, Upstream.{StaysWithin}, declared.count_key.{CountKey.{CountKey}, Counted.TheVariants.{Excluding, Including}}}
+use Rattle.amt_upstream.specs.{Counting.{AreInOrder, HasMoved, HasSame, IsClean, IsCounted, Numbers, entry_at, keys_after, keys_before, keys_by, keys_in, keys_of, number, same_key, some_unless_zero, times}, Taking.{AreChangesBy, AreNumbersAfter}, Upstream.{StaysWithin}, declared.count_key.{CountKey.{CountKey}, Counted.TheVariants.{Excluding, Including}}}
 use Rattle.amt_upstream.proofs.MovedKeys.{keys_moved}
 
 -- what a table keeps are the memberships by its log

@@ -1,10 +1,10 @@
 -- The joined filter admits what some endpoint wants.
-use Rattle.std.{proofs.{Common.{◌≡◌, ℕ, ◌↔◌, Bool, true, false, cond, ◌&&◌, ◌||◌, List, [], ◌∷◌, map, filter, refl, sym, ap, ◌∙◌, arith, inl, inr}, lemmas.{Bool.{cases_Bool, or_right}, Cmp.{eq_by_cmp_equiv}}}, specs.List.{list_any}}
+use Rattle.std.{proofs.{Common.{◌≡◌, ℕ, Bool, true, false, cond, ◌&&◌, ◌||◌, List, [], ◌∷◌, map, filter, refl, sym, ap, ◌∙◌, arith, inl, inr}, lemmas.{Bool.{cases_Bool, or_right}, Cmp.{eq_by_cmp_equiv}}}, specs.List.{list_any}}
 use Rattle.amt_values.{specs.{declared.address.Ip.{Ip}, EndpointValue.{EndpointValue}}, proofs.Orders.{endpoint_order-total}}
-use Rattle.source_filter.{specs.Filter.{FilterValue, admits}, proofs.MergedFilters.{admits-merged}}
+use Rattle.source_filter.{specs.Filter.{admits}, proofs.MergedFilters.{admits-merged}}
 use Rattle.endpoint_membership.specs.{Admission.{rows_admit}, EndpointGroup.{same_endpoint, same_group}, Log.{latest}, Membership.{Membership}, Memberships.{memberships_at, row_of}, declared.change.Change.{Change}}
 use Rattle.endpoint_membership.proofs.AdmittedRows.{rows_admit-log}
-use Rattle.amt_upstream.specs.Upstream.{AdmitsTheWanted, IsWantedBySome, filters_on, joined}
+use Rattle.amt_upstream.specs.Upstream.{AdmitsTheWanted, filters_on, joined}
 
 module _ (group source : Ip) where
   -- some filter of the group admits the source
@@ -33,8 +33,11 @@ module _ (group source : Ip) where
       let here = same_group group first.group && admits first.filter source in
       let either = sym (some_admits-first first rest) ∙ some in
       elim (cases_Bool here) [
-        | inl is ↦ (first.endpoint, left_by ((same_endpoint first.endpoint first.endpoint && same_group group first.group) && admits first.filter source) (rows_admit (map row_of rest) first.endpoint group source)
-            (ap (λ (mine : Bool). (mine && same_group group first.group) && admits first.filter source) ((eq_by_cmp_equiv endpoint_order-total).refl first.endpoint) ∙ is))
+        | inl is ↦ (
+          first.endpoint,
+          left_by ((same_endpoint first.endpoint first.endpoint && same_group group first.group) && admits first.filter source) (rows_admit (map row_of rest) first.endpoint group source)
+              (ap (λ (mine : Bool). (mine && same_group group first.group) && admits first.filter source) ((eq_by_cmp_equiv endpoint_order-total).refl first.endpoint) ∙ is),
+        )
         | inr is ↦ let later = found rest (or_later here (some_admits rest) is either) in
             (later.0, or_right ((same_endpoint later.0 first.endpoint && same_group group first.group) && admits first.filter source) (rows_admit (map row_of rest) later.0 group source) later.1)
       ]

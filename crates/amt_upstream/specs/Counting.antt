@@ -131,7 +131,7 @@ HasLowered keys before after = (key : CountKey) → entry_at after key ≡ lower
 abbrev pub HasSwept : List CountKey → Numbers → Numbers → Type 0
 HasSwept keys before after = (key : CountKey) → entry_at after key ≡ swept (has key_order keys key) (entry_at before key)
 
--- each of these keys has a number, if it be 0
+-- each of these keys has a number, even if it is 0
 abbrev pub AreThere : List CountKey → Numbers → Type 0
 AreThere keys tally = (key : CountKey) → has key_order keys key ≡ true → is_some (entry_at tally key) ≡ true
 

@@ -31,7 +31,7 @@ fn append_included(key: &CountKey, number: usize, sources: &mut Vec<Ip>) -> Resu
     Ok(())
 }
 
-// The endpoint that is counted.
+// The endpoint, where one is counted as excluding.
 fn endpoint_of(key: &CountKey) -> Option<Endpoint>
     ensures { result ≡ excluding_endpoint key.now.counted }
 {
@@ -125,7 +125,8 @@ impl Tally {
         Filter::new(alloc, Mode::Include, included.as_slice())
     }
 
-    /// The filter of a group of which no membership excludes: all of the group's counts are gone over.
+    /// The filter of a group of which no membership excludes. It goes over the counts of the sources
+    /// that are included, and no others.
     pub fn included(&self, alloc: Global, group: &Ip) -> Result<Filter, AllocError>
         ensures { ForRows self.now.numbers (λ rows. excludes self.now.numbers group.now ≡ false → IfOk result (λ found.
             found ≡ joined rows group.now)) }

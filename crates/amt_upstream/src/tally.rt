@@ -85,6 +85,8 @@ impl Tally {
         ensures err { OnErr result (HasSame self.old.numbers self.new.numbers) }
         ensures absent { OnErr result (entry_at self.old.numbers key.now ≡ None) }
     {
+        // The key is put together anew, since the proof of a call that may give the key back has to
+        // see the types of its parts in this body.
         let CountKey { group, counted } = *key;
         let number = self.number(key);
         match self.numbers.insert(CountKey { group, counted }, number + 1) {
@@ -119,6 +121,7 @@ impl Tally {
         *number = number.saturating_sub(1);
     }
 
+    // Counts keys out, and leaves each 0 where it is.
     fn lower(&mut self, keys: &[CountKey])
         ensures { HasLowered keys.now self.old.numbers self.new.numbers }
     {

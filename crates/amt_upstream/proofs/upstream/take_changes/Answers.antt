@@ -1,6 +1,6 @@
-use Rattle.std.proofs.Common.{◌≡◌, ℕ, ◌+◌, ◌≤◌, ◌<◌, List, length, sym, ap, subst, ◌∙◌, arith}
+use Rattle.std.proofs.Common.{List, length, sym, ap, subst, ◌∙◌, arith}
 use Rattle.endpoint_membership.specs.Table.{TableValue}
-use Rattle.amt_upstream.specs.{Counting.{HasMoved, IsCounted, keys_after, keys_before, times}, Taking.{AreNumbersAfter}}
+use Rattle.amt_upstream.specs.{Counting.{HasMoved, IsCounted, keys_after, times}, Taking.{AreNumbersAfter}}
 use Rattle.amt_upstream.specs.declared.count_key.CountKey.{CountKey}
 use Rattle.amt_upstream.proofs.NumbersAfter.{AreNumbersAfter-moved, IsCounted-next, IsCounted-same, enough_before, number-few, number-few_after}
 use Rattle.amt_upstream.proofs.upstream.take_changes.Goals as goal
@@ -14,8 +14,11 @@ count-requires-clause-room c key = omega (arith, number-few c.args.table.now c.a
 
 pub count-requires-clause-enough : goal.count-requires-clause-enough
 count-requires-clause-enough c key =
-    omega (arith, ap (times key) (c.deref-2.ensures.value ∙ c.in_ok-removed.ensures),
-    enough_before c.args.table.now c.args.tally.now.numbers c.args.change.now c.args.changes.now c.requires.counted c.requires.changes c.requires.within key)
+    omega (
+      arith,
+      ap (times key) (c.deref-2.ensures.value ∙ c.in_ok-removed.ensures),
+      enough_before c.args.table.now c.args.tally.now.numbers c.args.change.now c.args.changes.now c.requires.counted c.requires.changes c.requires.within key,
+    )
 
 -- what is counted
 has_moved : (c : After-deref-3) → AreNumbersAfter c.args.table.now c.args.change.now c.count.new.self.numbers
@@ -34,12 +37,17 @@ returns-in-Ok-clause-counted c =
 
 pub restore-requires-clause-room : goal.restore-requires-clause-room
 restore-requires-clause-room c key =
-    omega (arith, number-few_after c.args.table.now c.args.tally.now.numbers c.args.change.now c.requires.counted c.requires.within c.count.new.self.numbers
-    (has_moved (goal.at.restore-requires-clause-room c).After-deref-3) key, c.deref-2.type_inv, ap length (c.deref-in-Err-2.ensures.value ∙ sym c.deref-2.ensures.value))
+    omega (
+      arith,
+      number-few_after c.args.table.now c.args.tally.now.numbers c.args.change.now c.requires.counted c.requires.within c.count.new.self.numbers
+          (has_moved (goal.at.restore-requires-clause-room c).After-deref-3) key,
+      c.deref-2.type_inv,
+      ap length (c.deref-in-Err-2.ensures.value ∙ sym c.deref-2.ensures.value),
+    )
 
 pub returns-clause-counted : goal.returns-clause-counted
 returns-clause-counted c =
     let moved = subst (λ (removed : List CountKey). HasMoved c.deref-in-Err.result.now removed c.args.tally.now.numbers c.count.new.self.numbers) (c.deref-2.ensures.value ∙ sym c.deref-in-Err-2.ensures.value)
-        (subst (λ (added : List CountKey). HasMoved added c.deref-2.result.now c.args.tally.now.numbers c.count.new.self.numbers) (c.deref.ensures.value ∙ sym c.deref-in-Err.ensures.value) c.in_ok-count.ensures.moved) in
+    (subst (λ (added : List CountKey). HasMoved added c.deref-2.result.now c.args.tally.now.numbers c.count.new.self.numbers) (c.deref.ensures.value ∙ sym c.deref-in-Err.ensures.value) c.in_ok-count.ensures.moved) in
     subst (λ (table : TableValue). IsCounted table c.restore.new.self.numbers) (sym c.in-Err.ensures.same)
     (IsCounted-same c.args.table.now c.args.tally.now.numbers c.restore.new.self.numbers c.requires.counted (c.restore.ensures c.args.tally.now.numbers c.requires.counted.clean moved))

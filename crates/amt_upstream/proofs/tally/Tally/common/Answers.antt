@@ -1,6 +1,6 @@
-use Rattle.std.proofs.{Common.{rules, List, ap, ◌∙◌}, lemmas.Fn.{filter_same}}
+use Rattle.std.proofs.{Common.{rules, ap, ◌∙◌}, lemmas.Fn.{filter_same}}
 use Rattle.std.specs.List.{filter}
-use Rattle.amt_values.{specs.{declared.address.Ip.{Ip}, Order.{ip_order}}, proofs.{Orders.{ip_order-exact, ip_order-total}, AscendingLaws.{IsAscending-filter, ascending-fixed}}}
+use Rattle.amt_values.{specs.{Order.{ip_order}}, proofs.{Orders.{ip_order-exact, ip_order-total}, AscendingLaws.{IsAscending-filter, ascending-fixed}}}
 use Rattle.source_filter.specs.{Filter.{ascending_sources}, declared.mode.Mode.TheVariants.{Exclude}}
 use Rattle.amt_upstream.{specs.Looking.{is_common}, proofs.GroupRange.{made}}
 use Rattle.amt_upstream.proofs.tally.Tally.common.Goals as goal

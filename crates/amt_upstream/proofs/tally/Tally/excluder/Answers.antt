@@ -1,4 +1,4 @@
-use Rattle.std.{proofs.{Common.{◌≡◌, ◌≤◌, ℕ, IfNone, IfSome, ◌∙◌, arith}, lemmas.{List.Elements.{All-map, All-push}, Map.Iter.{iter_end}}}, specs.Map.Iter.{deref_pair}}
+use Rattle.std.{proofs.{Common.{◌≡◌, ◌≤◌, IfNone, IfSome, ◌∙◌, arith}, lemmas.{List.Elements.{All-map, All-push}, Map.Iter.{iter_end}}}, specs.Map.Iter.{deref_pair}}
 use Rattle.amt_values.specs.EndpointValue.{EndpointValue}
 use Rattle.amt_upstream.{specs.{Counting.{number}, declared.count_key.Counted.TheVariants.{Excluder}}, proofs.{ExcluderRange.{excluder_told, excluders_between, no_excluder}, KeyOrder.{keys_compared}}}
 use Rattle.amt_upstream.proofs.tally.Tally.excluder.Goals.{After-endpoint_of}

@@ -1,4 +1,4 @@
-use Rattle.std.{proofs.Common.{◌≡◌, All, map}, specs.Map.Iter.{deref_pair}}
+use Rattle.std.{proofs.Common.{◌≡◌, All}}
 use Rattle.amt_upstream.proofs.tally.Tally.excluder.Given as goal
 
 abbrev pub invariant-loop-key : goal.invariant-loop-key

@@ -1,4 +1,4 @@
-use Rattle.std.{proofs.{Common.{ℕ, List, ◌++◌, ◌∷◌, map, sym, ap, subst, ◌∙◌}, lemmas.Map.Iter.{rest_so_far}}, specs.{BTreeMap.{IsOrdered, Range.{entries_between}}, Map.Iter.{deref_pair}, declared.{cmp.Ordering.{Ordering}, ops.Bound.TheVariants.{Included, Unbounded}}}}
+use Rattle.std.{proofs.{Common.{ℕ, List, ◌++◌, map, sym, ap, subst, ◌∙◌}, lemmas.Map.Iter.{rest_so_far}}, specs.{BTreeMap.{IsOrdered, Range.{entries_between}}, Map.Iter.{deref_pair}, declared.{cmp.Ordering.{Ordering}, ops.Bound.TheVariants.{Included, Unbounded}}}}
 use Rattle.amt_values.specs.{declared.address.Ip.{Ip}, Order.{ip_order}, Ascending.{has}}
 use Rattle.amt_upstream.{specs.declared.count_key.CountKey.{CountKey}, proofs.{GroupRange.{included_found, included_in, included_push, least_included, none_past}, KeyOrder.{keys_compared}}}
 use Rattle.amt_upstream.proofs.tally.Tally.included_sources.Goals.{in-None, in-Some+then-not-is_of}

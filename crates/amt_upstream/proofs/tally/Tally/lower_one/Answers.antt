@@ -1,4 +1,4 @@
-use Rattle.std.{proofs.Common.{ℕ, ◌-◌, Some, is_some, sym, subst, ap, ◌∙◌}, specs.BTreeMap.{Updates}}
+use Rattle.std.{proofs.Common.{ℕ, Some, is_some, sym, subst, ap, ◌∙◌}, specs.BTreeMap.{Updates}}
 use Rattle.amt_upstream.specs.contracts.count_key.CountKeyOrd as keys
 use Rattle.amt_upstream.proofs.CountedKeys.{HasLowered-none, HasLowered-set, found_at}
 use Rattle.amt_upstream.proofs.tally.Tally.lower_one.Goals as goal

@@ -1,6 +1,6 @@
 use Rattle.std.{proofs.{Common.{◌≡◌, IfOk, List, sym, ap, subst, ◌∙◌}, lemmas.Result.{IfOk-weaker}}}
 use Rattle.source_filter.specs.Filter.{FilterValue}
-use Rattle.endpoint_membership.specs.{Membership.{Membership}, Table.{TableValue, Holds}}
+use Rattle.endpoint_membership.specs.{Membership.{Membership}, Table.{TableValue}}
 use Rattle.amt_upstream.specs.Upstream.{AdmitsTheWanted, joined, upstream_filter}
 use Rattle.amt_upstream.proofs.{NumbersAfter.{rows_now}, WantedBySome.{AdmitsTheWanted-joined}}
 use Rattle.amt_upstream.proofs.upstream.Upstream.interface.Goals as goal
