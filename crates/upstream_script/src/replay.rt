@@ -48,7 +48,8 @@ struct UpstreamRun {
     upstream: Upstream,
 }
 
-// Takes one event, and puts its text after what is held.
+// Takes one event, and puts its text after what is held. Where memory runs out on the way, the relay may be one
+// event ahead, and there is no text of it: the run ends there.
 fn take_event(
     alloc: Global,
     run: &mut UpstreamRun,
