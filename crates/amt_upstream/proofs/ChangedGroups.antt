@@ -44,6 +44,15 @@ unchanged_by : (mode : Mode) (sources : List Ip) (group : Ip) → changes_by mod
 unchanged_by Include sources group = ap (λ (left : List Ip). record_of_some Allow group left ++ record_of_some Block group left) (difference-itself sources)
 unchanged_by Exclude sources group = ap (λ (left : List Ip). record_of_some Allow group left ++ record_of_some Block group left) (difference-itself sources)
 
+none_of : (rows : List Membership) (groups : List Ip) → flat_map (changed_on rows rows) groups ≡ []
+none_of rows [] = refl
+none_of rows (group ∷ more) = let filter = joined rows group in rw (unchanged_by filter.mode filter.sources group) (none_of rows more)
+
+-- memberships that stay as they are bring no record
+pub changes_between-itself : (rows : List Membership) → changes_between rows rows ≡ []
+unfolding changes_between
+changes_between-itself rows = none_of rows (groups_in (rows ++ rows))
+
 -- ---- what the changes of a group leave as it was
 
 unnamed_by : (here : Bool) (first : MembershipChange) (rest : List MembershipChange) (source : Ip) → lists (named_by (cond here (first ∷ rest) rest)) source ≡ false

@@ -1,7 +1,7 @@
 -- What changes are counted by moves the numbers of the memberships before to those of the memberships after.
 use Rattle.std.proofs.{Common.{◌≡◌, ℕ, ◌+◌, ◌≤◌, Bool, true, false, cond, not, ◌||◌, List, [], ◌∷◌, filter, sum_by, Option, Some, None, refl, sym, ap, ◌∙◌, arith, inl, inr}, lemmas.{Bool.{cases_Bool}, Cmp.{on_total, then_total, tied_itself}, Map.Keys.{sorted_head, sorted_tail}, List.{Elements.{All-cons, All-head, All-nil, All-tail}, Filters.{sum_by-filter_both}, Sums.{sum_by-append, sum_by-cons}}}}
-use Rattle.std.specs.{Prelude.{All}, Cmp.{IsTotalOrder}, List.{AllByRecursion, flat_map}, Option.{option_map}, declared.cmp.Ordering.{Ordering, TheVariants.{Less}}}
-use Rattle.amt_values.{specs.{Ascending.{IsAscending}, Order.{endpoint_order, ip_order}}, proofs.{AscendingLaws.{IsAscending-filter}, Orders.{endpoint_order-total, ip_order-total}}}
+use Rattle.std.specs.{Prelude.{All}, Cmp.{IsTotalOrder}, List.{AllByRecursion, flat_map}, Option.{option_map}, declared.cmp.Ordering.{TheVariants.{Less}}}
+use Rattle.amt_values.{specs.{Ascending.{IsAscending}}, proofs.{AscendingLaws.{IsAscending-filter}, Orders.{endpoint_order-total, ip_order-total}}}
 use Rattle.source_filter.specs.Filter.{FilterValue}
 use Rattle.endpoint_membership.specs.{EndpointGroup.{EndpointGroup, same_endpoint_group}, Membership.{Membership, endpoint_group_of, membership_order}, Memberships.{membership_in}, MembershipChanges.{AreChanges, IsChange, change_order, changed_pair, changes_pair, filter_at}, declared.membership_change.MembershipChange.{MembershipChange}}
 use Rattle.endpoint_membership.proofs.{MembershipIn.{membership_in-first, membership_in-where, none_later, same_endpoint_group-exact}, SetAt.{same_back}}

@@ -67,13 +67,6 @@ impl Tally {
             && self.number_on(group, Counted::Including(*source)) == 0
     }
 
-    /// Whether some membership of the group excludes.
-    pub fn excludes(&self, group: &Ip) -> bool
-        ensures { result ≡ excludes self.now.numbers group.now }
-    {
-        self.number_on(group, Counted::Excluders) > 0
-    }
-
     /// Some endpoint whose membership in the group excludes. Numbers that came to 0 are passed over.
     pub fn excluder(&self, group: &Ip) -> Option<Endpoint>
         ensures some { IfSome result (λ endpoint.

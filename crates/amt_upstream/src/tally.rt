@@ -56,8 +56,6 @@ impl Tally {
         requires present { (key : Key) → has key_order removed.now key ≡ true
             → is_some (entry_at self.old.numbers key) ≡ true }
         requires room { (key : Key) → number self.old.numbers key + length removed.now < 2 ^ 64 }
-        requires enough { (key : Key)
-            → times key added.now ≤ number self.old.numbers key + times key removed.now }
         ensures { (before : Numbers) → IsClean before
             → HasMoved added.now removed.now before self.old.numbers
             → HasSame before self.new.numbers }

@@ -3,12 +3,12 @@ use Rattle.std.{proofs.{Common.{◌≡◌, ℕ, List, [], ◌∷◌, ◌++◌, O
 use Rattle.response_mac.specs.declared.secret.Secret.{Secret}
 use Rattle.source_filter.specs.declared.record.Record.{Record}
 use Rattle.endpoint_membership.specs.{Limits.{IsWithin}, Table.{Holds, TableSettings, TableValue, memberships_now}, declared.change.Change.{Change}}
-use Rattle.amt_upstream.specs.Upstream.{StaysWithin, changes_between}
+use Rattle.amt_upstream.{specs.Upstream.{StaysWithin, changes_between}, proofs.ChangedGroups.{changes_between-itself}}
 use Rattle.relay_machine.specs.{Accepted.{change_of, with_change}, Answers.{RelayAt, outcome_of, sends_of}, Published.{published_log}, Settings.{AreLawfulSettings, membership_interval_ms, table_settings_of}}
 use Rattle.relay_machine.{specs.declared.{event.Event.{Event}, outcome.Outcome.{Outcome}, sends.OneSend.{OneSend}, settings.Settings.{Settings}}, proofs.PublishedLog.{published_log-next, published_log-none, published_log-within}}
 use Rattle.amt_script.specs.{Running.{IsItem}, Texts.{RelayStart, event_in, events_in, step_text}, declared.script.RelayItem.{RelayItem}}
 use Rattle.amt_script.specs.declared.script.RelayItem.TheVariants as items
-use Rattle.upstream_script.{specs.{Running.{IsUpstreamAfter, MayCome}, Texts.{change_line, item_text, published_memberships}, declared.replay.UpstreamRun.{UpstreamRun}}, proofs.Changes.{same_rows}}
+use Rattle.upstream_script.{specs.{Running.{IsUpstreamAfter, MayCome}, Texts.{change_line, item_text, published_memberships}, declared.replay.UpstreamRun.{UpstreamRun}}}
 
 -- where no entry is taken there is no line
 pub none_taken : (settings : TableSettings) (log : List Change) (entry : Option Change) (text : List ℕ) → entry ≡ None
@@ -16,7 +16,7 @@ pub none_taken : (settings : TableSettings) (log : List Change) (entry : Option 
 none_taken settings log entry text none =
     let rows = memberships_now settings log in
     sym (append-nil text)
-    ∙ (ap (λ (records : List Record). text ++ flat_map change_line records) (sym (same_rows rows))
+    ∙ (ap (λ (records : List Record). text ++ flat_map change_line records) (sym (changes_between-itself rows))
     ∙ ap (λ (one : Option Change). text ++ flat_map change_line (changes_between rows (memberships_now settings (with_change log one)))) (sym none))
 
 module _ (settings : Settings) (first : Secret) (events : List Event) (event : Event) where

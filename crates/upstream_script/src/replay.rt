@@ -12,7 +12,7 @@ ghost use Rattle.upstream_script.specs.{Running.{IsUpstreamAfter, MayCome}, Text
 
 use crate::text::append_changes;
 use amt_ports::Sink;
-use amt_script::{RelayItem, RelayScript, print_relay_step, write_rows};
+use amt_script::{RelayItem, RelayScript, print_relay_step, write_shown};
 use amt_upstream::Upstream;
 use amt_values::Bytes;
 use endpoint_membership::Change;
@@ -94,29 +94,6 @@ fn write_event<O: Sink>(
         return Err(RunFault::Memory);
     };
     write_where_full(held, out)
-}
-
-// The relay's memberships.
-fn write_shown<O: Sink>(
-    alloc: Global,
-    relay: &Relay,
-    number: u64,
-    held: &mut Bytes,
-    out: &mut O,
-) -> Result<(), RunFault>
-    ensures done { AfterEvents relay.now (λ settings first events.
-        OnOk result (WritesUpTo (O.written out.old) (O.written out.new)
-        (held.old ++ rows_text number (rows_after settings first events)) held.new)) }
-    ensures begun { AfterEvents relay.now (λ settings first events.
-        OnErr result (WritesPrefix (O.written out.old) (O.written out.new)
-        (held.old ++ rows_text number (rows_after settings first events)))) }
-
-    ensures counts { CountsWrites (O.faults out.old) (O.faults out.new) result }
-{
-    let Ok(rows) = relay.rows(alloc) else {
-        return Err(RunFault::Memory);
-    };
-    write_rows(&rows, number, held, out)
 }
 
 impl ScriptRun for UpstreamRun {
