@@ -13,8 +13,8 @@ usage: python3 bench/mixed.py joins ENDPOINTS             settings, and a join o
                                                           sources that are nobody else's, and so many reports of
                                                           which each changes one of them
 
-There are at most 65,536 endpoints, and 20,000 of the last kind. Each has a group of its own but there; every other one
-is joined in MLDv2.
+There are at most 65,536 endpoints; of `shared` more than 20,000 don't fit a script of 16 MiB. Each has a group of its own,
+but in `shared`; every other one is joined in MLDv2.
 The response MACs are of a secret of 32 zero octets.
 """
 import hashlib

@@ -12,8 +12,8 @@ use Rattle.script_lines.specs.Script.{IsFaultAt}
 use Rattle.upstream_script.specs.Texts.{upstream_script_text}
 use Rattle.amt_command.specs.Task.{Task, Work, making, reading, replay_task, serving}
 
--- relay, gateway and pair scripts, each with the text of its run, and relay scripts with what the relay tells its own
--- network besides
+-- relay, gateway and pair scripts, each with the text of its run, and relay scripts with what the relay's own network
+-- has to hear besides
 abbrev pub relay_task : Task RelayScript
 relay_task = replay_task relay_kind relay_script_text
 

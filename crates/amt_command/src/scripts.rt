@@ -90,7 +90,7 @@ impl HasTask for PairReplay {
     }
 }
 
-/// Relay scripts, with what the relay tells its own network.
+/// Relay scripts, with what the relay's own network has to hear.
 #[derive(Drop)]
 pub struct UpstreamReplay {}
 

@@ -3,7 +3,7 @@ use Rattle.std.{proofs.{Common.{◌≡◌, Bool, true, false, not, cond, ◌&&�
 use Rattle.amt_values.{specs.{declared.address.Ip.{Ip}, Order.{ip_order}, Ascending.{IsAscending, difference, has}}, proofs.{Orders.{ip_order-exact, ip_order-total}, AscendingLaws.{IsAscending-ascending, IsAscending-filter, has-append, has-ascending, has-difference, has-filter, same_ascending}}}
 use Rattle.source_filter.specs.{Changes.{changes_by, changes_on, record_of_some}, Merging.{merged}, Record.{lists}, declared.mode.Mode.{Mode, TheVariants.{Include, Exclude}}, declared.record.{RecordKind.TheVariants.{Allow, Block}}}
 use Rattle.endpoint_membership.{specs.{EndpointGroup.{EndpointGroup, same_endpoint, same_endpoint_group, same_group}, Membership.{Membership, membership_order}, MembershipChanges.{AreChanges, IsChange, changed_pair, changes_pair, filter_at}, declared.membership_change.MembershipChange.{MembershipChange}}, proofs.EndpointGroupOrder.{endpoint_group_order-exact, same_endpoint_group-is}}
-use Rattle.amt_upstream.{specs.{Looking.{changed_groups, changes_on_group, named_by, seen, seen_after, sources_if}, Upstream.{changed_on, changes_between, filters_on, groups_in, joined}}, proofs.{GroupFilters.{IsUnion-merged, filters_on-none, filters_on-same, some_lists-same}, Narrowed.{Agree, changes_on-seen}}}
+use Rattle.amt_upstream.{specs.{Looking.{changed_groups, changes_on_group, named_by, seen, seen_after, sources_if}, Upstream.{records_on, records_between, filters_in, groups_in, joined}}, proofs.{GroupFilters.{IsUnion-merged, filters_in-none, filters_in-same, some_lists-same}, Narrowed.{Agree, changes_on-seen}}}
 
 -- ---- lists by group
 
@@ -44,14 +44,14 @@ unchanged_by : (mode : Mode) (sources : List Ip) (group : Ip) → changes_by mod
 unchanged_by Include sources group = ap (λ (left : List Ip). record_of_some Allow group left ++ record_of_some Block group left) (difference-itself sources)
 unchanged_by Exclude sources group = ap (λ (left : List Ip). record_of_some Allow group left ++ record_of_some Block group left) (difference-itself sources)
 
-none_of : (rows : List Membership) (groups : List Ip) → flat_map (changed_on rows rows) groups ≡ []
+none_of : (rows : List Membership) (groups : List Ip) → flat_map (records_on rows rows) groups ≡ []
 none_of rows [] = refl
 none_of rows (group ∷ more) = let filter = joined rows group in rw (unchanged_by filter.mode filter.sources group) (none_of rows more)
 
 -- memberships that stay as they are bring no record
-pub changes_between-itself : (rows : List Membership) → changes_between rows rows ≡ []
-unfolding changes_between
-changes_between-itself rows = none_of rows (groups_in (rows ++ rows))
+pub records_between-itself : (rows : List Membership) → records_between rows rows ≡ []
+unfolding records_between
+records_between-itself rows = none_of rows (groups_in (rows ++ rows))
 
 -- ---- what the changes of a group leave as it was
 
@@ -94,33 +94,33 @@ module _ (before after : List Membership) where
 
   module _ (changes : List MembershipChange) (first : IsAscending membership_order before) (second : IsAscending membership_order after) (are : AreChanges before after changes) where
     -- a group without a change has the same filter
-    filters_on-unchanged : (group : Ip) → has ip_order (changed_groups changes) group ≡ false → filters_on group before ≡ filters_on group after
-    filters_on-unchanged group apart =
-        filters_on-same group before after first second (λ at here. are.others at (not_changed at changes
+    filters_in-unchanged : (group : Ip) → has ip_order (changed_groups changes) group ≡ false → filters_in group before ≡ filters_in group after
+    filters_in-unchanged group apart =
+        filters_in-same group before after first second (λ at here. are.others at (not_changed at changes
         (ap (has ip_order (map (λ (change : MembershipChange). change.group) changes)) (sym (tells_apart ip_order-exact group at.group here)) ∙ sym (has-ascending ip_order-total (map (λ (change : MembershipChange). change.group) changes) group) ∙ apart)))
 
-    same_records : (group : Ip) → filters_on group before ≡ filters_on group after → changed_on before after group ≡ []
+    same_records : (group : Ip) → filters_in group before ≡ filters_in group after → records_on before after group ≡ []
     same_records group same =
         ap (λ filters. changes_on (joined before group) (merged filters) group) (sym same) ∙ unchanged_by (joined before group).mode (joined before group).sources group
 
     -- the records are those of the groups that change
-    pub changes_between-changed : changes_between before after ≡ flat_map (changed_on before after) (changed_groups changes)
-    unfolding changes_between
-    changes_between-changed =
+    pub records_between-changed : records_between before after ≡ flat_map (records_on before after) (changed_groups changes)
+    unfolding records_between
+    records_between-changed =
         let groups = map (λ (membership : Membership). membership.group) in
-        flat_map-same (changed_on before after) (groups_in (before ++ after)) (changed_groups changes) (IsAscending-ascending ip_order-total (groups (before ++ after)))
+        flat_map-same (records_on before after) (groups_in (before ++ after)) (changed_groups changes) (IsAscending-ascending ip_order-total (groups (before ++ after)))
         (IsAscending-ascending ip_order-total (map (λ (change : MembershipChange). change.group) changes))
         (λ group apart.
         let parts = or_parts (has ip_order (groups before) group) (has ip_order (groups after) group)
         (sym (has-append ip_order (groups before) (groups after) group) ∙ ap (λ all. has ip_order all group) (sym (map-append (λ (membership : Membership). membership.group) before after)) ∙ sym (has-ascending ip_order-total (groups (before ++ after)) group) ∙ apart) in
-        same_records group (filters_on-none group before parts.0 ∙ sym (filters_on-none group after parts.1)))
-        (λ group apart. same_records group (filters_on-unchanged group apart))
+        same_records group (filters_in-none group before parts.0 ∙ sym (filters_in-none group after parts.1)))
+        (λ group apart. same_records group (filters_in-unchanged group apart))
 
     agree : (group : Ip) → (joined before group).mode ≡ Include → (joined after group).mode ≡ Include
         → Agree (named_by (changes_on_group group changes)) (joined before group).sources (joined after group).sources
     agree group included includes =
-        let old = IsUnion-merged (filters_on group before) included in
-        let new = IsUnion-merged (filters_on group after) includes in
+        let old = IsUnion-merged (filters_in group before) included in
+        let new = IsUnion-merged (filters_in group after) includes in
         record {
           old_ascends = old.ascends;
           new_ascends = new.ascends;
@@ -132,7 +132,7 @@ module _ (before after : List Membership) where
         }
 
     -- the records of a group by what is looked at of its filters
-    pub changed_on-seen : (group : Ip) (named : List Ip) → named ≡ named_by (changes_on_group group changes)
-        → changes_on (seen named (joined before group)) (seen_after (joined before group).mode named (joined after group)) group ≡ changed_on before after group
-    changed_on-seen group named are_named =
+    pub records_on-seen : (group : Ip) (named : List Ip) → named ≡ named_by (changes_on_group group changes)
+        → changes_on (seen named (joined before group)) (seen_after (joined before group).mode named (joined after group)) group ≡ records_on before after group
+    records_on-seen group named are_named =
         rw are_named (changes_on-seen (named_by (changes_on_group group changes)) (joined before group) (joined after group) group (agree group))

@@ -1,7 +1,8 @@
 -- What a step makes of the numbers, and what steps make of them together.
 use Rattle.std.{proofs.{Common.{◌≡◌, ℕ, zero, suc, ◌+◌, ◌-◌, ◌<◌, ◌≤◌, Bool, true, false, cond, ◌||◌, List, [], ◌∷◌, ◌++◌, length, get_or, take, Option, None, Some, is_some, refl, sym, ap, subst, ◌∙◌, arith, add-zero, zero-add}, lemmas.{Cmp.{eq_by_cmp_equiv}, List.{length-take-le, take_more, Folds.{list_any-append, list_any_at}, Sums.{count_by-le-length, sum_by-append, sum_by-cons}}}}, specs.{BTreeMap.{Updates, get}, Option.{unwrap_or}, Ordering.{eq_by_cmp}, declared.cmp.Ordering.{Ordering}}}
 use Rattle.amt_values.specs.Ascending.{has}
-use Rattle.amt_upstream.{specs.{Counting.{AreThere, HasLowered, HasRaised, HasSwept, IsClean, IsCleanBesides, Numbers, entry_at, key_order, lowered, number, raised, same_key, some_unless_zero, swept, times}, declared.count_key.CountKey.{CountKey}}, proofs.KeyOrder.{key_order-total, keys_compared, same_key-is}}
+use Rattle.endpoint_membership.specs.Parts.{some_unless_zero}
+use Rattle.amt_upstream.{specs.{Counting.{AreThere, HasLowered, HasRaised, HasSwept, IsClean, IsCleanBesides, Numbers, entry_at, key_order, lowered, number, raised, same_key, swept, times}, declared.count_key.CountKey.{CountKey}}, proofs.KeyOrder.{key_order-total, keys_compared, same_key-is}}
 use Rattle.amt_upstream.specs.contracts.count_key.CountKeyOrd as keys
 
 abbrev Order : Type 0

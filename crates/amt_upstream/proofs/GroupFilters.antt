@@ -4,7 +4,7 @@ use Rattle.amt_values.{specs.{declared.address.Ip.{Ip}, Order.{ip_order}, Ascend
 use Rattle.source_filter.specs.{Filter.{FilterValue}, Merging.{all_sources, exclude_list, exclude_lists, include_list, include_lists, intersection_of, merged, merged_by, union_of}, Record.{lists}, declared.mode.Mode.{Mode, TheVariants.{Include, Exclude}}}
 use Rattle.endpoint_membership.specs.{EndpointGroup.{EndpointGroup, endpoint_group_order, same_endpoint_group, same_group}, Membership.{Membership, endpoint_group_of, membership_order}, MembershipChanges.{filter_at}, Memberships.{membership_in}}
 use Rattle.endpoint_membership.proofs.{EndpointGroupOrder.{endpoint_group_order-exact}, MembershipIn.{GivesItsEndpointGroup-membership_in, All-from_membership_in, IsAscending-pairs, same_where}, SetAt.{IsAscending-from_pairs}}
-use Rattle.amt_upstream.specs.{Looking.{sources_if}, Upstream.{filters_on}}
+use Rattle.amt_upstream.specs.{Looking.{sources_if}, Upstream.{filters_in}}
 
 -- the memberships of the group
 abbrev pub on_group : Ip → List Membership → List Membership
@@ -42,25 +42,25 @@ kept_by : (here : Bool) (first : Membership) (rest undated_rest : List Membershi
 kept_by true first rest undated_rest same = ap (λ (more : List FilterValue). first.filter ∷ more) same
 kept_by false first rest undated_rest same = same
 
-filters_on-undated : (group : Ip) (rows : List Membership) → filters_on group (map undated rows) ≡ filters_on group rows
-filters_on-undated group [] = refl
-filters_on-undated group (first ∷ rest) = kept_by (same_group group first.group) first (on_group group rest) (on_group group (map undated rest)) (filters_on-undated group rest)
+filters_in-undated : (group : Ip) (rows : List Membership) → filters_in group (map undated rows) ≡ filters_in group rows
+filters_in-undated group [] = refl
+filters_in-undated group (first ∷ rest) = kept_by (same_group group first.group) first (on_group group rest) (on_group group (map undated rest)) (filters_in-undated group rest)
 
 -- the filters of a group are the same where each endpoint wants the same of it
-pub filters_on-same : (group : Ip) (one other : List Membership) → IsAscending membership_order one → IsAscending membership_order other
-    → ((at : EndpointGroup) → same_group group at.group ≡ true → filter_at one at ≡ filter_at other at) → filters_on group one ≡ filters_on group other
-filters_on-same group one other first second same =
-    sym (filters_on-undated group one)
+pub filters_in-same : (group : Ip) (one other : List Membership) → IsAscending membership_order one → IsAscending membership_order other
+    → ((at : EndpointGroup) → same_group group at.group ≡ true → filter_at one at ≡ filter_at other at) → filters_in group one ≡ filters_in group other
+filters_in-same group one other first second same =
+    sym (filters_in-undated group one)
     ∙ ap (map (λ (membership : Membership). membership.filter)) (same_where (λ at. same_group group at.group) (map undated one) (map undated other) (IsAscending-undated one first) (IsAscending-undated other second)
     (λ at here. membership_in-undated one at ∙ ap (option_map (with_filter at)) (same at here) ∙ sym (membership_in-undated other at)))
-    ∙ filters_on-undated group other
+    ∙ filters_in-undated group other
 
 -- a group in which no membership is has no filter
-pub filters_on-none : (group : Ip) (rows : List Membership) → has ip_order (map (λ membership. membership.group) rows) group ≡ false → filters_on group rows ≡ []
-filters_on-none group [] none = refl
-filters_on-none group (first ∷ rest) none =
+pub filters_in-none : (group : Ip) (rows : List Membership) → has ip_order (map (λ membership. membership.group) rows) group ≡ false → filters_in group rows ≡ []
+filters_in-none group [] none = refl
+filters_in-none group (first ∷ rest) none =
     let parts = or_parts (same_group group first.group) (has ip_order (map (λ (membership : Membership). membership.group) rest) group) none in
-    rw parts.0 (filters_on-none group rest parts.1)
+    rw parts.0 (filters_in-none group rest parts.1)
 
 -- two tests are one where each follows from the other
 both_follow : (one other : Bool) → (one ≡ true → other ≡ true) → (other ≡ true → one ≡ true) → one ≡ other
@@ -86,7 +86,7 @@ module _ (group source : Ip) where
   found_by_pair false true first rest later same more is = or_right (lists first.filter.sources source) _ (more is)
   found_by_pair false false first rest later same more is = more is
 
-  some_lists-at : (rows : List Membership) (at : EndpointGroup) → same_group group at.group ≡ true → lists_at rows at ≡ true → some_lists source (filters_on group rows) ≡ true
+  some_lists-at : (rows : List Membership) (at : EndpointGroup) → same_group group at.group ≡ true → lists_at rows at ≡ true → some_lists source (filters_in group rows) ≡ true
   some_lists-at [] at here is = is
   some_lists-at (first ∷ rest) at here is =
       found_by_pair (same_endpoint_group at (endpoint_group_of first)) (same_group group first.group) first (on_group group rest) (membership_in rest at)
@@ -100,24 +100,24 @@ module _ (group source : Ip) where
 
   -- what follows from each membership that lists the source, follows where some filter does
   given : {X : Type 0} (rows : List Membership) → AllByRecursion (λ membership. same_group group membership.group ≡ true → lists membership.filter.sources source ≡ true → X) rows
-      → some_lists source (filters_on group rows) ≡ true → X
+      → some_lists source (filters_in group rows) ≡ true → X
   given [] each is = absurd (true≢false (sym is))
   given (first ∷ rest) each is = given_by (same_group group first.group) first (on_group group rest) each.0 (given rest each.1) is
 
   follows : (one other : List Membership) → IsAscending membership_order one → ((at : EndpointGroup) → same_group group at.group ≡ true → lists_at one at ≡ lists_at other at)
-      → some_lists source (filters_on group one) ≡ true → some_lists source (filters_on group other) ≡ true
+      → some_lists source (filters_in group one) ≡ true → some_lists source (filters_in group other) ≡ true
   follows one other ascends same =
       given one
-      (All-from_membership_in (λ membership. same_group group membership.group ≡ true → lists membership.filter.sources source ≡ true → some_lists source (filters_on group other) ≡ true) one ascends
+      (All-from_membership_in (λ membership. same_group group membership.group ≡ true → lists membership.filter.sources source ≡ true → some_lists source (filters_in group other) ≡ true) one ascends
       (λ at membership found ours listed.
       let here = ap (λ (pair : EndpointGroup). same_group group pair.group) (sym (GivesItsEndpointGroup-membership_in one at membership found)) ∙ ours in
       some_lists-at other at here (sym (same at here) ∙ ap (λ (one : Option Membership). lists (sources_if (option_map (λ row. row.filter) one)) source) found ∙ listed)))
 
   -- some filter lists the source in the one where it does in the other, if that is so of each pair
   pub some_lists-same : (one other : List Membership) → IsAscending membership_order one → IsAscending membership_order other
-      → ((at : EndpointGroup) → same_group group at.group ≡ true → lists_at one at ≡ lists_at other at) → some_lists source (filters_on group one) ≡ some_lists source (filters_on group other)
+      → ((at : EndpointGroup) → same_group group at.group ≡ true → lists_at one at ≡ lists_at other at) → some_lists source (filters_in group one) ≡ some_lists source (filters_in group other)
   some_lists-same one other first second same =
-      both_follow (some_lists source (filters_on group one)) (some_lists source (filters_on group other)) (follows one other first same) (follows other one second (λ at here. sym (same at here)))
+      both_follow (some_lists source (filters_in group one)) (some_lists source (filters_in group other)) (follows one other first same) (follows other one second (λ at here. sym (same at here)))
 
 listed_by : (mode : Mode) (sources : List Ip) (rest : List FilterValue) (source : Ip) (more : Bool) → exclude_list mode sources ++ exclude_lists rest ≡ []
     → (exclude_lists rest ≡ [] → has ip_order (all_sources (include_lists rest)) source ≡ more)

@@ -2,12 +2,8 @@
 use Rattle.std.{proofs.{Common.{◌≡◌, ◌≤◌, ℕ, ◌+◌, ◌==◌, nat_lt, Bool, true, false, not, cond, ◌&&◌, ◌||◌, List, [], ◌∷◌, ◌++◌, map, Option, Some, None, refl, sym, ap, subst, ◌∙◌, arith, zero-add, ⊎_elim}, Math.Bool.{or-false}, lemmas.{Bool.{and_from, and_parts, cases_Bool, lt-ltb, or_left, or_right, Decides.{nat_tests}}, Cmp.{tied_itself}, List.{Sums.{sum_by-cons}}, Map.Keys.{sorted_tail}}}, specs.{List.{AllByRecursion, count_by, filter, list_any}, Option.{option_map}, Ordering.{is_eq}}}
 use Rattle.amt_values.{specs.{declared.address.Ip.{Ip}, Order.{ip_order}, EndpointValue.{EndpointValue}, Ascending.{IsAscending, has, intersection}}, proofs.{Orders.{endpoint_order-total, ip_order-exact, ip_order-total}, AscendingLaws.{IsAscending-ascending, IsAscending-filter, has-ascending, has-filter, has-intersection, same_ascending}}}
 use Rattle.source_filter.{specs.{Filter.{FilterValue, admits, admits_by, ascending_sources}, Merging.{all_sources, common_sources, exclude_list, exclude_lists, include_lists, intersection_of, merged_by, union_of}, Record.{lists}, declared.mode.Mode.{Mode, TheVariants.{Include, Exclude}}}, proofs.{MergedFilters.{admits-merged}, SourceSets.{listing}}}
-use Rattle.endpoint_membership.{specs.{EndpointGroup.{EndpointGroup, same_endpoint, same_endpoint_group, same_group}, Membership.{Membership, endpoint_group_of, membership_order}, Memberships.{membership_in}, MembershipChanges.{filter_at}}, proofs.{EndpointGroupOrder.{same_endpoint_group-is}, MembershipIn.{none_later}, ReportBounds.{All-at}}}
-use Rattle.amt_upstream.{specs.{Counting.{AreInOrder, AreNumbers, Numbers, number}, Looking.{excludes, is_common, is_included, seen, seen_by}, Upstream.{filters_on, joined}, declared.count_key.Counted.{Counted, TheVariants.{Excluders, Excluder, Excluding, Including}}}, proofs.{KeyCounts.{counts, is_counted, times-rows}, KeyOrder.{key_on}}}
-
--- the pair of an endpoint and a group
-abbrev pub pair : EndpointValue → Ip → EndpointGroup
-pair endpoint group = record { endpoint = endpoint; group = group }
+use Rattle.endpoint_membership.{specs.{EndpointGroup.{same_endpoint, same_endpoint_group, same_group}, Membership.{Membership, endpoint_group_of, membership_order}, Memberships.{membership_in}, MembershipChanges.{filter_at}}, proofs.{EndpointGroupOrder.{same_endpoint_group-is}, MembershipIn.{none_later}, OwnFilters.{pair}, ReportBounds.{All-at}}}
+use Rattle.amt_upstream.{specs.{Counting.{AreInOrder, AreNumbers, Numbers, number}, Looking.{excludes, is_common, is_included, seen, seen_by}, Upstream.{filters_in, joined}, declared.count_key.Counted.{Counted, TheVariants.{Excluders, Excluder, Excluding, Including}}}, proofs.{KeyCounts.{counts, is_counted, times-rows}, KeyOrder.{key_on}}}
 
 -- the mode of a group, by whether some membership excludes
 abbrev pub mode_by : Bool → Mode
@@ -35,8 +31,8 @@ map-cond true first rest = refl
 map-cond false first rest = refl
 
 -- the filters of the group with one membership more
-filters_on-more : (group : Ip) (first : Membership) (rest : List Membership) → filters_on group (first ∷ rest) ≡ cond (same_group group first.group) (first.filter ∷ filters_on group rest) (filters_on group rest)
-filters_on-more group first rest = map-cond (same_group group first.group) first (filter (λ membership. same_group group membership.group) rest)
+filters_in-more : (group : Ip) (first : Membership) (rest : List Membership) → filters_in group (first ∷ rest) ≡ cond (same_group group first.group) (first.filter ∷ filters_in group rest) (filters_in group rest)
+filters_in-more group first rest = map-cond (same_group group first.group) first (filter (λ membership. same_group group membership.group) rest)
 
 -- some of the filters lets the source in
 abbrev admitting : Ip → List FilterValue → Bool
@@ -88,17 +84,17 @@ module _ (group source : Ip) where
   any_by true first rest = refl
   any_by false first rest = refl
 
-  decided : (rows : List Membership) → IsDecided (admitting source (filters_on group rows)) (counted_in rows group Excluders) (counted_in rows group (Excluding source)) (counted_in rows group (Including source))
+  decided : (rows : List Membership) → IsDecided (admitting source (filters_in group rows)) (counted_in rows group Excluders) (counted_in rows group (Excluding source)) (counted_in rows group (Including source))
   decided [] = record { within = omega arith; admitted = refl }
   decided (first ∷ rest) =
       let here = same_group group first.group in
-      let any = ap (admitting source) (filters_on-more group first rest) ∙ any_by here first.filter (filters_on group rest)
-      ∙ ap (λ (one : Bool). one || admitting source (filters_on group rest)) (admitted_row here first.endpoint first.filter.mode first.filter.sources) in
+      let any = ap (admitting source) (filters_in-more group first rest) ∙ any_by here first.filter (filters_in group rest)
+      ∙ ap (λ (one : Bool). one || admitting source (filters_in group rest)) (admitted_row here first.endpoint first.filter.mode first.filter.sources) in
       let implies = excluding_row here first.endpoint first.filter.mode first.filter.sources in
       let so_far = decided rest in
       rw (any, more_counted group Excluders first rest, more_counted group (Excluding source) first rest, more_counted group (Including source) first rest) (record {
         within = within_by (is_counted group (Excluding source) first) (is_counted group Excluders first) (counted_in rest group Excluders) (counted_in rest group (Excluding source)) implies so_far.within;
-        admitted = admitted_by (is_counted group (Including source) first) (is_counted group (Excluding source) first) (is_counted group Excluders first) (admitting source (filters_on group rest))
+        admitted = admitted_by (is_counted group (Including source) first) (is_counted group (Excluding source) first) (is_counted group Excluders first) (admitting source (filters_in group rest))
             (counted_in rest group Excluders) (counted_in rest group (Excluding source)) (counted_in rest group (Including source)) implies so_far.within so_far.admitted;
       })
 
@@ -119,11 +115,11 @@ some_row true Include endpoint sources rest number so_far = so_far ∙ sym (none
 some_row true Exclude endpoint sources rest number so_far = sym (lt-ltb 0 (1 + number) (omega arith))
 some_row false mode endpoint sources rest number so_far = so_far ∙ sym (none_more number)
 
-some_excluded : (group : Ip) (rows : List Membership) → has_some (exclude_lists (filters_on group rows)) ≡ nat_lt 0 (counted_in rows group Excluders)
+some_excluded : (group : Ip) (rows : List Membership) → has_some (exclude_lists (filters_in group rows)) ≡ nat_lt 0 (counted_in rows group Excluders)
 some_excluded group [] = refl
 some_excluded group (first ∷ rest) =
-    ap (λ (filters : List FilterValue). has_some (exclude_lists filters)) (filters_on-more group first rest)
-    ∙ some_row (same_group group first.group) first.filter.mode first.endpoint first.filter.sources (filters_on group rest) (counted_in rest group Excluders) (some_excluded group rest)
+    ap (λ (filters : List FilterValue). has_some (exclude_lists filters)) (filters_in-more group first rest)
+    ∙ some_row (same_group group first.group) first.filter.mode first.endpoint first.filter.sources (filters_in group rest) (counted_in rest group Excluders) (some_excluded group rest)
     ∙ ap (nat_lt 0) (sym (more_counted group Excluders first rest))
 
 AreAscending : List (List Ip) → Type 0
@@ -146,12 +142,12 @@ ascending_row true Include sources rest ascends each = each
 ascending_row true Exclude sources rest ascends each = (ascends, each)
 ascending_row false mode sources rest ascends each = each
 
-AreAscending-excluded : (group : Ip) (rows : List Membership) → AreInOrder rows → AreAscending (exclude_lists (filters_on group rows))
+AreAscending-excluded : (group : Ip) (rows : List Membership) → AreInOrder rows → AreAscending (exclude_lists (filters_in group rows))
 unfolding AreAscending
 AreAscending-excluded group [] in_order = tt
 AreAscending-excluded group (first ∷ rest) in_order =
-    subst (λ (filters : List FilterValue). AreAscending (exclude_lists filters)) (sym (filters_on-more group first rest))
-    (ascending_row (same_group group first.group) first.filter.mode first.filter.sources (filters_on group rest) in_order.0 (AreAscending-excluded group rest in_order.1))
+    subst (λ (filters : List FilterValue). AreAscending (exclude_lists filters)) (sym (filters_in-more group first rest))
+    (ascending_row (same_group group first.group) first.filter.mode first.filter.sources (filters_in group rest) in_order.0 (AreAscending-excluded group rest in_order.1))
 
 -- ---- memberships of a group
 
@@ -167,11 +163,11 @@ module _ (any : List FilterValue → Bool) (its : FilterValue) (here : (more : L
   any_found_by false false first found filters implies is rest = rest is
 
   -- what some filter of the group decides, the filter of an endpoint decides
-  any_found : (endpoint : EndpointValue) (group : Ip) (rows : List Membership) → filter_at rows (pair endpoint group) ≡ Some its → any (filters_on group rows) ≡ true
+  any_found : (endpoint : EndpointValue) (group : Ip) (rows : List Membership) → filter_at rows (pair endpoint group) ≡ Some its → any (filters_in group rows) ≡ true
   any_found endpoint group [] found = cc
   any_found endpoint group (first ∷ rest) found =
-      ap any (filters_on-more group first rest)
-      ∙ any_found_by (same_endpoint_group (pair endpoint group) (endpoint_group_of first)) (same_group group first.group) first (membership_in rest (pair endpoint group)) (filters_on group rest)
+      ap any (filters_in-more group first rest)
+      ∙ any_found_by (same_endpoint_group (pair endpoint group) (endpoint_group_of first)) (same_group group first.group) first (membership_in rest (pair endpoint group)) (filters_in group rest)
       (of_pair endpoint group first) found (any_found endpoint group rest)
 
 some_later : (mode : Mode) (sources : List Ip) (rest : List (List Ip)) → has_some rest ≡ true → has_some (exclude_list mode sources ++ rest) ≡ true
@@ -271,18 +267,18 @@ module _ (rows : List Membership) (tally : Numbers) (numbers : AreNumbers rows t
   -- the numbers say the mode
   pub joined-mode : (joined rows group).mode ≡ mode_by (excludes tally group)
   joined-mode =
-      merged-mode (exclude_lists (filters_on group rows)) (union_of (include_lists (filters_on group rows)))
+      merged-mode (exclude_lists (filters_in group rows)) (union_of (include_lists (filters_in group rows)))
       ∙ ap mode_by (some_excluded group rows ∙ ap (nat_lt 0) (counted_number Excluders))
 
   pub IsAscending-joined : IsAscending ip_order (joined rows group).sources
-  IsAscending-joined = IsAscending-merged_by (exclude_lists (filters_on group rows)) (include_lists (filters_on group rows)) (AreAscending-excluded group rows in_order)
+  IsAscending-joined = IsAscending-merged_by (exclude_lists (filters_in group rows)) (include_lists (filters_in group rows)) (AreAscending-excluded group rows in_order)
 
-  in_numbers : (source : Ip) → IsDecided (admitting source (filters_on group rows)) (number tally (key_on group Excluders)) (number tally (key_on group (Excluding source))) (number tally (key_on group (Including source)))
+  in_numbers : (source : Ip) → IsDecided (admitting source (filters_in group rows)) (number tally (key_on group Excluders)) (number tally (key_on group (Excluding source))) (number tally (key_on group (Including source)))
   in_numbers source = rw (sym (counted_number Excluders), sym (counted_number (Excluding source)), sym (counted_number (Including source))) (decided group source rows)
 
   -- a source is let in by numbers
   admits-joined : (source : Ip) → admits (joined rows group) source ≡ (is_included tally group source || nat_lt (number tally (key_on group (Excluding source))) (number tally (key_on group Excluders)))
-  admits-joined source = admits-merged (filters_on group rows) (joined rows group) refl source ∙ (in_numbers source).admitted
+  admits-joined source = admits-merged (filters_in group rows) (joined rows group) refl source ∙ (in_numbers source).admitted
 
   -- what an INCLUDE filter lists
   pub has-joined : excludes tally group ≡ false → (source : Ip) → has ip_order (joined rows group).sources source ≡ is_included tally group source

@@ -4,7 +4,8 @@ use Rattle.std.{proofs.lemmas.List.Elements.{All-nil}, specs.{List.{filter}, Lis
 use Rattle.amt_values.specs.{declared.address.Ip.{Ip}, EndpointValue.{EndpointValue}, Ascending.{IsAscending}}
 use Rattle.source_filter.{specs.{Changes.{changes_on}, Filter.{FilterValue, ascending_sources}, declared.mode.Mode.{Mode, TheVariants.{Include, Exclude}}}, proofs.SourceSets.{listing}}
 use Rattle.endpoint_membership.specs.{Membership.{Membership, membership_order}, MembershipChanges.{IsChange, filter_at}, declared.membership_change.MembershipChange.{MembershipChange}}
-use Rattle.amt_upstream.{specs.{Counting.{AreInOrder, AreNumbers, Numbers, number}, Looking.{IsAfter, IsSideOf, is_common, is_included, seen, seen_after, seen_by, sources_if}, Upstream.{changed_on, joined}, declared.{count_key.Counted.TheVariants.{Excluder}, sides.Side.{Side}}}, proofs.{ChangedGroups.{changed_on-seen}, JoinedByNumbers.{excluder-found, excludes-none, joined-common, pair, seen-included}}}
+use Rattle.endpoint_membership.proofs.OwnFilters.{pair}
+use Rattle.amt_upstream.{specs.{Counting.{AreInOrder, AreNumbers, Numbers, number}, Looking.{IsAfter, IsSideOf, is_common, is_included, seen, seen_after, seen_by, sources_if}, Upstream.{records_on, joined}, declared.{count_key.Counted.TheVariants.{Excluder}, sides.Side.{Side}}}, proofs.{ChangedGroups.{records_on-seen}, JoinedByNumbers.{excluder-found, excludes-none, joined-common, seen-included}}}
 
 whole_by : (mode : Mode) (named sources : List Ip) → listing Exclude sources ≡ seen_after mode named (listing Exclude sources)
 whole_by Include named sources = refl
@@ -44,10 +45,10 @@ IsAfter-none rows tally ascends numbers in_order = record {
 -- the records of a side and what is looked at after it
 pub changed-side : (before : List Membership) (changes : List MembershipChange) (tally : Numbers) (after : List Membership) (side : Side) (mode : Mode) (found : FilterValue) → IsSideOf before changes side
     → IsAfter before changes tally after → mode ≡ side.before.mode → found ≡ seen_after mode side.named.items (joined after side.group)
-    → changes_on side.before found side.group ≡ changed_on before after side.group
+    → changes_on side.before found side.group ≡ records_on before after side.group
 changed-side before changes tally after side mode found side_is is same looked =
     let old = joined before side.group in
     let its_mode : mode ≡ old.mode = same ∙ ap (λ (one : FilterValue). one.mode) side_is.before ∙ mode-seen_by old.mode side.named.items old.sources in
     ap (λ (one : FilterValue). changes_on one found side.group) side_is.before
     ∙ ap (λ (one : FilterValue). changes_on (seen side.named.items old) one side.group) (looked ∙ ap (λ (one : Mode). seen_after one side.named.items (joined after side.group)) its_mode)
-    ∙ changed_on-seen before after changes is.ascended is.ascends is.are_changes side.group side.named.items side_is.named
+    ∙ records_on-seen before after changes is.ascended is.ascends is.are_changes side.group side.named.items side_is.named

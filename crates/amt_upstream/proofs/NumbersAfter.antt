@@ -3,13 +3,10 @@ use Rattle.std.proofs.{Common.{◌≡◌, ℕ, ◌+◌, ◌*◌, ◌≤◌, List
 use Rattle.amt_values.{specs.{declared.address.Ip.{Ip}, EndpointValue.{EndpointValue}, Ascending.{IsAscending}, Order.{ip_order}}, proofs.{AscendingLaws.{IsAscending-ascending}, Orders.{ip_order-total}}}
 use Rattle.source_filter.specs.declared.mode.Mode.{Mode, TheVariants.{Include, Exclude}}
 use Rattle.endpoint_membership.specs.{GroupFilter.{is_counted_source, named_sources}, Limits.{IsWithin}, Log.{latest, live_chain}, Membership.{Membership}, Memberships.{memberships_at, row_of}, MembershipChanges.{AreChanges}, Table.{AreLawful, ForLog, Holds, IsWithinLimits, TableSettings, TableValue, memberships_now}, declared.{change.Change.{Change}, limits.Limits.{Limits}, membership_change.MembershipChange.{MembershipChange}}}
-use Rattle.endpoint_membership.proofs.{FewRows.{AreFew-row_of}, MembershipIn.{All-from_membership_in}, MembershipsByLog.{AreMembershipsAt-memberships_at, membership_by, rows_are}}
-use Rattle.amt_upstream.specs.{Counting.{AreInOrder, HasMoved, HasSame, IsClean, IsCounted, Numbers, entry_at, keys_after, keys_before, keys_by, keys_in, keys_of, number, same_key, some_unless_zero, times}, Taking.{AreChangesBy, AreNumbersAfter}, Upstream.{StaysWithin}, declared.count_key.{CountKey.{CountKey}, Counted.TheVariants.{Excluding, Including}}}
+use Rattle.endpoint_membership.proofs.{FewRows.{AreFew-row_of}, HoldsAfter.{rows_now}, MembershipIn.{All-from_membership_in}, MembershipsByLog.{AreMembershipsAt-memberships_at, membership_by}}
+use Rattle.endpoint_membership.specs.Parts.{some_unless_zero}
+use Rattle.amt_upstream.specs.{Counting.{AreInOrder, HasMoved, HasSame, IsClean, IsCounted, Numbers, entry_at, keys_after, keys_before, keys_by, keys_in, keys_of, number, same_key, times}, Taking.{AreChangesBy, AreNumbersAfter}, Upstream.{StaysWithin}, declared.count_key.{CountKey.{CountKey}, Counted.TheVariants.{Excluding, Including}}}
 use Rattle.amt_upstream.proofs.MovedKeys.{keys_moved}
-
--- what a table keeps are the memberships by its log
-pub rows_now : (settings : TableSettings) (table : TableValue) (log : List Change) → Holds settings table log → table.rows ≡ memberships_now settings log
-rows_now settings table log holds = rows_are settings.lifetime (latest log) log table.rows holds.rows
 
 -- each membership by a log lists its sources in order
 pub AreInOrder-memberships_at : (lifetime moment : ℕ) (log : List Change) → AreInOrder (memberships_at lifetime moment log)

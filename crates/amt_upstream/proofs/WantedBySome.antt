@@ -4,12 +4,12 @@ use Rattle.amt_values.{specs.{declared.address.Ip.{Ip}, EndpointValue.{EndpointV
 use Rattle.source_filter.{specs.Filter.{admits}, proofs.MergedFilters.{admits-merged}}
 use Rattle.endpoint_membership.specs.{Admission.{rows_admit}, EndpointGroup.{same_endpoint, same_group}, Log.{latest}, Membership.{Membership}, Memberships.{memberships_at, row_of}, declared.change.Change.{Change}}
 use Rattle.endpoint_membership.proofs.AdmittedRows.{rows_admit-log}
-use Rattle.amt_upstream.specs.Upstream.{AdmitsTheWanted, filters_on, joined}
+use Rattle.amt_upstream.specs.Upstream.{AdmitsTheWanted, filters_in, joined}
 
 module _ (group source : Ip) where
   -- some filter of the group admits the source
   abbrev some_admits : List Membership → Bool
-  some_admits rows = list_any (λ one. admits one source) (filters_on group rows)
+  some_admits rows = list_any (λ one. admits one source) (filters_in group rows)
 
   first_by : (here : Bool) (first : Membership) (later : List Membership)
       → list_any (λ one. admits one source) (map (λ membership. membership.filter) (cond here (first ∷ later) later))
@@ -60,7 +60,7 @@ module _ (group source : Ip) where
 pub AdmitsTheWanted-joined : (lifetime : ℕ) (log : List Change) (group : Ip) → AdmitsTheWanted lifetime log group (joined (memberships_at lifetime (latest log) log) group)
 AdmitsTheWanted-joined lifetime log group source =
     let rows = memberships_at lifetime (latest log) log in
-    let admitted = admits-merged (filters_on group rows) (joined rows group) refl source in
+    let admitted = admits-merged (filters_in group rows) (joined rows group) refl source in
     let by_log = λ (endpoint : EndpointValue). rows_admit-log endpoint group source lifetime log (latest log) (omega arith) in (
       (λ some. let one = found group source rows (sym admitted ∙ some) in (one.0, sym (by_log one.0) ∙ one.1)),
       (λ one. admitted ∙ given group source rows one.0 (by_log one.0 ∙ one.1)),

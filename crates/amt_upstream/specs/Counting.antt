@@ -1,8 +1,8 @@
 -- How memberships are counted. No public contract says these words.
-use Rattle.std.specs.{Prelude.{◌≡◌, ℕ, ◌+◌, ◌-◌, ◌*◌, ◌≤◌, zero, suc, Bool, true, false, List, [], ◌∷◌, map, Option, Some, None, is_some}, BTreeMap.{BTreeMap, get}, List.{count_by, flat_map, AllByRecursion}, Option.{unwrap_or}, Ordering.{eq_by_cmp, nat_cmp, on, then_cmp}, declared.cmp.Ordering.{Ordering, TheVariants.{Equal}}}
+use Rattle.std.specs.{Prelude.{◌≡◌, ℕ, ◌+◌, ◌-◌, ◌*◌, ◌≤◌, Bool, true, false, List, [], ◌∷◌, map, Option, Some, None, is_some}, BTreeMap.{BTreeMap, get}, List.{count_by, flat_map, AllByRecursion}, Option.{unwrap_or}, Ordering.{eq_by_cmp, nat_cmp, on, then_cmp}, declared.cmp.Ordering.{Ordering, TheVariants.{Equal}}}
 use Rattle.amt_values.specs.{declared.address.Ip.{Ip}, Order.{endpoint_order, ip_order}, EndpointValue.{EndpointValue}, Ascending.{IsAscending, has}}
 use Rattle.source_filter.specs.{Filter.{FilterValue}, declared.mode.Mode.{Mode, TheVariants.{Include, Exclude}}}
-use Rattle.endpoint_membership.specs.{Membership.{Membership, membership_order}, Table.{AreLawful, IsWithinLimits, TableValue}, declared.membership_change.MembershipChange.{MembershipChange}}
+use Rattle.endpoint_membership.specs.{Membership.{Membership, membership_order}, Parts.{some_unless_zero}, Table.{AreLawful, IsWithinLimits, TableValue}, declared.membership_change.MembershipChange.{MembershipChange}}
 use Rattle.amt_upstream.specs.declared.count_key.{CountKey.{CountKey}, Counted.{Counted, TheVariants.{Excluders, Excluder, Excluding, Including}}}
 
 -- in this order the kinds of counts stand
@@ -38,9 +38,9 @@ source_key mode group source = record { group = group; counted = counted_by mode
 
 -- what an endpoint's filter of the group is counted by, by mode and list
 abbrev pub keys_by : Mode → Ip → EndpointValue → List Ip → List CountKey
-keys_by Include group endpoint sources = map (λ source. record { group = group; counted = Including source }) sources
+keys_by Include group endpoint sources = map (source_key Include group) sources
 keys_by Exclude group endpoint sources =
-    record { group = group; counted = Excluders } ∷ record { group = group; counted = Excluder endpoint } ∷ map (λ source. record { group = group; counted = Excluding source }) sources
+    record { group = group; counted = Excluders } ∷ record { group = group; counted = Excluder endpoint } ∷ map (source_key Exclude group) sources
 
 -- the same of a filter
 abbrev pub keys_of : Ip → EndpointValue → FilterValue → List CountKey
@@ -70,11 +70,6 @@ same_key one other = eq_by_cmp key_order one other
 -- how often the key is among these
 abbrev pub times : CountKey → List CountKey → ℕ
 times key keys = count_by (same_key key) keys
-
--- a number, and nothing for 0
-abbrev pub some_unless_zero : ℕ → Option ℕ
-some_unless_zero zero = None
-some_unless_zero (suc n) = Some (suc n)
 
 -- how many memberships each key counts
 abbrev pub Numbers : Type 0

@@ -1,17 +1,17 @@
--- What all tunnel endpoints together want of each group, and what changes of it: what a relay tells its own
--- network as a host (RFC 4605, section 4.1; RFC 3376, sections 3.2 and 5.1).
+-- What all tunnel endpoints together want of each group, and what changes of it: what a relay's own network has to
+-- hear of it as of a host (RFC 4605, section 4.1; RFC 3376, sections 3.2 and 5.1).
 use Rattle.std.specs.{Prelude.{◌≡◌, ℕ, ◌↔◌, true, List, [], ◌∷◌, ◌++◌, map}, List.{filter, flat_map}}
 use Rattle.amt_values.specs.{declared.address.Ip.{Ip}, Order.{ip_order}, EndpointValue.{EndpointValue}, Ascending.{ascending}}
 use Rattle.source_filter.specs.{Changes.{changes_on}, Filter.{FilterValue, admits}, Merging.{merged}, declared.record.Record.{Record}}
 use Rattle.endpoint_membership.specs.{Admission.{is_admitted}, EndpointGroup.{same_group}, Limits.{IsWithin}, Log.{latest}, Membership.{Membership}, Memberships.{memberships_at}, Table.{Holds, TableSettings, TableValue, memberships_now}, declared.change.Change.{Change}}
 
 -- the filters of the memberships in the group
-abbrev pub filters_on : Ip → List Membership → List FilterValue
-filters_on group rows = map (λ membership. membership.filter) (filter (λ membership. same_group group membership.group) rows)
+abbrev pub filters_in : Ip → List Membership → List FilterValue
+filters_in group rows = map (λ membership. membership.filter) (filter (λ membership. same_group group membership.group) rows)
 
 -- the one filter of the group for all of these memberships
 abbrev pub joined : List Membership → Ip → FilterValue
-joined rows group = merged (filters_on group rows)
+joined rows group = merged (filters_in group rows)
 
 -- the same by the log, at its latest moment
 abbrev pub upstream_filter : ℕ → List Change → Ip → FilterValue
@@ -22,16 +22,16 @@ abbrev pub groups_in : List Membership → List Ip
 groups_in rows = ascending ip_order (map (λ membership. membership.group) rows)
 
 -- the change records of the group; there is none where both filters are one
-abbrev pub changed_on : List Membership → List Membership → Ip → List Record
-changed_on before after group = changes_on (joined before group) (joined after group) group
+abbrev pub records_on : List Membership → List Membership → Ip → List Record
+records_on before after group = changes_on (joined before group) (joined after group) group
 
 -- those of each group that has a membership before or after, by group
-unfoldable pub changes_between : List Membership → List Membership → List Record
-changes_between before after = flat_map (changed_on before after) (groups_in (before ++ after))
+unfoldable pub records_between : List Membership → List Membership → List Record
+records_between before after = flat_map (records_on before after) (groups_in (before ++ after))
 
 -- the records by which the log's next entry is answered
 abbrev pub changes_after : TableSettings → List Change → Change → List Record
-changes_after settings log entry = changes_between (memberships_now settings log) (memberships_now settings (log ++ entry ∷ []))
+changes_after settings log entry = records_between (memberships_now settings log) (memberships_now settings (log ++ entry ∷ []))
 
 -- some endpoint wants the source of the group at the log's latest moment
 abbrev pub IsWantedBySome : ℕ → List Change → Ip → Ip → Type 0

@@ -1,4 +1,4 @@
-//! What memberships are counted by.
+//! The keys under which memberships are counted.
 
 use amt_values::{Endpoint, Ip};
 

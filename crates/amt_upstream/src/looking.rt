@@ -11,9 +11,9 @@ use endpoint_membership::{MembershipChange, Table};
 use source_filter::{Filter, Mode};
 use std::alloc::{AllocError, Global};
 
-/// What is looked at of the filter of a group after changes from the table, where the filter before
-/// is of this mode. The numbers are those after the changes. Of an INCLUDE list it looks at the named
-/// sources, after an EXCLUDE filter at all; of EXCLUDE lists at one.
+/// What matters of a group's filter after changes from the table, where the filter before is of this
+/// mode: an EXCLUDE filter whole; of an INCLUDE list all, if the group excluded before, and else only
+/// the named sources. The numbers are those after the changes.
 pub fn look_after(
     alloc: Global,
     table: &Table,

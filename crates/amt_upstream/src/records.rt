@@ -3,7 +3,7 @@
 ghost use Rattle.std.specs.Prelude.{◌≡◌, ◌++◌, List, All, IfOk, OnOk, map};
 ghost use Rattle.amt_values.specs.Ascending.{IsAscending};
 ghost use Rattle.endpoint_membership.specs.{Membership.{Membership, membership_order}, MembershipChanges.{AreChanges}};
-ghost use Rattle.amt_upstream.specs.{Counting.{AreInOrder, AreNumbers}, Looking.{IsAfter, IsSideOf, changed_groups}, Upstream.{changed_on, changes_between}};
+ghost use Rattle.amt_upstream.specs.{Counting.{AreInOrder, AreNumbers}, Looking.{IsAfter, IsSideOf, changed_groups}, Upstream.{records_on, records_between}};
 
 use crate::looking::look_after;
 use crate::sides::Side;
@@ -26,7 +26,7 @@ pub fn changed_records(
     ensures { (after : List Membership) → AreNumbers after tally.now.numbers → AreInOrder after
         → AreInOrder table.now.rows → AreChanges table.now.rows after changes.now
         → IsAscending membership_order table.now.rows → IsAscending membership_order after
-        → IfOk result (λ records. records ≡ changes_between table.now.rows after) }
+        → IfOk result (λ records. records ≡ records_between table.now.rows after) }
 {
     let mut records = Records::new(alloc);
     for side in sides {
@@ -47,7 +47,7 @@ fn push_changed(
     requires { IsSideOf table.now.rows changes.now side.now }
     ensures { (after : List Membership)
         → IsAfter table.now.rows changes.now tally.now.numbers after
-        → OnOk result (records.new ≡ records.old ++ changed_on table.now.rows after side.now.group) }
+        → OnOk result (records.new ≡ records.old ++ records_on table.now.rows after side.now.group) }
 {
     let (before, group) = (&side.before, &side.group);
     let mode = before.mode();

@@ -20,7 +20,7 @@ pub struct Side {
     pub before: Filter,
 }
 
-/// The groups that change, by number, with what is seen of their filters before.
+/// The groups that change, ascending, with what is seen of their filters before.
 pub fn sides_of(
     alloc: Global,
     table: &Table,

@@ -1,6 +1,6 @@
 //! How many memberships each key counts.
 
-ghost use Rattle.std.specs.Prelude.{◌≡◌, ℕ, ◌+◌, ◌-◌, ◌<◌, ◌≤◌, ◌^◌, ◌↔◌, IsTrue, [], ◌∷◌, take, None, is_some, true, length, OnOk, OnErr};
+ghost use Rattle.std.specs.Prelude.{◌≡◌, ◌+◌, ◌-◌, ◌<◌, ◌≤◌, ◌^◌, ◌↔◌, IsTrue, [], ◌∷◌, take, None, is_some, true, length, OnOk, OnErr};
 ghost use Rattle.amt_values.specs.Ascending.{has};
 ghost use Rattle.amt_upstream.specs.{Counting.{AreThere, HasLowered, HasMoved, HasRaised, HasSame, HasSwept, IsClean, IsCleanBesides, Numbers, entry_at, key_order, number, times}, declared.count_key.CountKey.{CountKey as Key}};
 

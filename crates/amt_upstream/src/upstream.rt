@@ -1,8 +1,8 @@
 //! What all tunnel endpoints together want.
 
-ghost use Rattle.std.specs.Prelude.{◌≡◌, ◌≤◌, ◌*◌, true, [], ◌∷◌, ◌++◌, All, IfOk, OnOk, OnErr, map};
+ghost use Rattle.std.specs.Prelude.{◌≡◌, ◌≤◌, ◌*◌, [], ◌∷◌, ◌++◌, All, IfOk, OnOk, OnErr, map};
 ghost use Rattle.endpoint_membership.specs.Table.{AreLawful, ForLog, Holds};
-ghost use Rattle.amt_upstream.specs.{Counting.{IsCounted}, Looking.{IsSideOf, changed_groups, excludes}, Taking.{AreChangesBy, AreNumbersAfter}, Upstream.{AdmitsTheWanted, StaysWithin, changes_after, joined, upstream_filter}};
+ghost use Rattle.amt_upstream.specs.{Counting.{IsCounted}, Looking.{IsSideOf, changed_groups}, Taking.{AreChangesBy, AreNumbersAfter}, Upstream.{AdmitsTheWanted, StaysWithin, changes_after, joined, upstream_filter}};
 
 use crate::keys::{keys_after, keys_before};
 use crate::looking::look_after;

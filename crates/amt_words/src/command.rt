@@ -9,7 +9,7 @@ pub enum Replayable {
     Gateway,
     /// A relay and its gateways.
     Pair,
-    /// A relay, with what it tells its own network.
+    /// A relay, with what its own network has to hear.
     Upstream,
 }
 

@@ -40,7 +40,7 @@ enum Given {
 }
 
 // What is given, how many records answer it, and what is wanted of 239.1.1.1 then.
-const DAY: [(Given, usize, Mode, &[Ip]); 9] = [
+const DAY: [(Given, usize, Mode, &[Ip]); 10] = [
     (Given::Clear(9, 0), 0, Include, &[]),
     (Given::Report(7, IsEx, &[A, B], 1000), 1, Exclude, &[A, B]),
     (Given::Report(8, IsEx, &[B, C], 1000), 1, Exclude, &[B]),
@@ -49,7 +49,8 @@ const DAY: [(Given, usize, Mode, &[Ip]); 9] = [
     (Given::Clear(7, 0), 0, Exclude, &[C]),
     (Given::Mark(500), 0, Exclude, &[C]),
     (Given::Mark(260_999), 0, Exclude, &[C]),
-    (Given::Mark(261_000), 1, Include, &[]),
+    (Given::Report(8, IsIn, &[A], 261_000), 1, Include, &[A]),
+    (Given::Mark(521_000), 1, Include, &[]),
 ];
 
 // The records of a report with one record on 239.1.1.1.

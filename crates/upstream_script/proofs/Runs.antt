@@ -3,7 +3,7 @@ use Rattle.std.{proofs.{Common.{◌≡◌, ℕ, List, [], ◌∷◌, ◌++◌, O
 use Rattle.response_mac.specs.declared.secret.Secret.{Secret}
 use Rattle.source_filter.specs.declared.record.Record.{Record}
 use Rattle.endpoint_membership.specs.{Limits.{IsWithin}, Table.{Holds, TableSettings, TableValue, memberships_now}, declared.change.Change.{Change}}
-use Rattle.amt_upstream.{specs.Upstream.{StaysWithin, changes_between}, proofs.ChangedGroups.{changes_between-itself}}
+use Rattle.amt_upstream.{specs.Upstream.{StaysWithin, records_between}, proofs.ChangedGroups.{records_between-itself}}
 use Rattle.relay_machine.specs.{Accepted.{change_of, with_change}, Answers.{RelayAt, outcome_of, sends_of}, Published.{published_log}, Settings.{AreLawfulSettings, membership_interval_ms, table_settings_of}}
 use Rattle.relay_machine.{specs.declared.{event.Event.{Event}, outcome.Outcome.{Outcome}, sends.OneSend.{OneSend}, settings.Settings.{Settings}}, proofs.PublishedLog.{published_log-next, published_log-none, published_log-within}}
 use Rattle.amt_script.specs.{Running.{IsItem}, Texts.{RelayStart, event_in, events_in, step_text}, declared.script.RelayItem.{RelayItem}}
@@ -12,12 +12,12 @@ use Rattle.upstream_script.{specs.{Running.{IsUpstreamAfter, MayCome}, Texts.{ch
 
 -- where no entry is taken there is no line
 pub none_taken : (settings : TableSettings) (log : List Change) (entry : Option Change) (text : List ℕ) → entry ≡ None
-    → text ≡ text ++ flat_map change_line (changes_between (memberships_now settings log) (memberships_now settings (with_change log entry)))
+    → text ≡ text ++ flat_map change_line (records_between (memberships_now settings log) (memberships_now settings (with_change log entry)))
 none_taken settings log entry text none =
     let rows = memberships_now settings log in
     sym (append-nil text)
-    ∙ (ap (λ (records : List Record). text ++ flat_map change_line records) (sym (changes_between-itself rows))
-    ∙ ap (λ (one : Option Change). text ++ flat_map change_line (changes_between rows (memberships_now settings (with_change log one)))) (sym none))
+    ∙ (ap (λ (records : List Record). text ++ flat_map change_line records) (sym (records_between-itself rows))
+    ∙ ap (λ (one : Option Change). text ++ flat_map change_line (records_between rows (memberships_now settings (with_change log one)))) (sym none))
 
 module _ (settings : Settings) (first : Secret) (events : List Event) (event : Event) where
   -- the published log with what the step hands out is that of the events with this one
@@ -41,13 +41,13 @@ module _ (settings : Settings) (first : Secret) (events : List Event) (event : E
   pub text_is : (number : ℕ) (outcome : Outcome) (sends : List OneSend) (entry : Option Change) (step text : List ℕ)
       → outcome ≡ outcome_of settings first events event → sends ≡ sends_of settings first events event → entry ≡ change_of settings first events event
       → step ≡ step_text number outcome sends
-      → text ≡ step ++ flat_map change_line (changes_between (published_memberships settings first events)
+      → text ≡ step ++ flat_map change_line (records_between (published_memberships settings first events)
       (memberships_now (table_settings_of settings) (with_change (published_log settings first events) entry)))
       → text ≡ item_text settings first events number (items.Event event)
   text_is number outcome sends entry step text is_outcome is_sends is_entry is_step is_text =
       let rows = published_memberships settings first events in
       let answer = is_step ∙ (λ i. step_text number (is_outcome i) (is_sends i)) in
-      is_text ∙ (λ i. answer i ++ flat_map change_line (changes_between rows (memberships_now (table_settings_of settings) (log_is entry is_entry i))))
+      is_text ∙ (λ i. answer i ++ flat_map change_line (records_between rows (memberships_now (table_settings_of settings) (log_is entry is_entry i))))
 
 -- both are where the items lead that have these events
 at_events : (run : UpstreamRun) (start : RelayStart) (items : List RelayItem) (events : List Event) → events ≡ events_in items

@@ -3,13 +3,13 @@ use Rattle.std.specs.Prelude.{ℕ, List, [], ◌∷◌, ◌++◌, codes, flat_ma
 use Rattle.response_mac.specs.declared.secret.Secret.{Secret}
 use Rattle.source_filter.specs.declared.record.Record.{Record}
 use Rattle.endpoint_membership.specs.{Membership.{Membership}, Table.{memberships_now}}
-use Rattle.amt_upstream.specs.Upstream.{changes_between}
+use Rattle.amt_upstream.specs.Upstream.{records_between}
 use Rattle.relay_machine.specs.{Published.{published_log}, Settings.{table_settings_of}, declared.{event.Event.{Event}, settings.Settings.{Settings}}}
 use Rattle.script_lines.specs.Running.{script_text}
 use Rattle.amt_script.specs.{Texts.{RelayStart, events_in, group_record_text, item_text as relay_item_text}, declared.script.{RelayItem.{RelayItem}, RelayScript.{RelayScript}}}
 use Rattle.amt_script.specs.declared.script.RelayItem.TheVariants as items
 
--- `+ KIND GROUP SOURCES`: one change record that a relay tells its own network as a host (RFC 3376, section 5.1)
+-- `+ KIND GROUP SOURCES`: one change record that a relay's own network has to hear (RFC 3376, section 5.1)
 unfoldable pub change_line : Record → List ℕ
 change_line one = codes "+ " ++ (group_record_text one ++ 10 ∷ [])
 
@@ -19,14 +19,14 @@ published_memberships settings first events = memberships_now (table_settings_of
 
 -- the change records of an event after these events: from what all endpoints together wanted before it to what
 -- they want with it
-abbrev pub records_of : Settings → Secret → List Event → Event → List Record
-records_of settings first events event =
-    changes_between (published_memberships settings first events) (published_memberships settings first (events ++ event ∷ []))
+abbrev pub records_after : Settings → Secret → List Event → Event → List Record
+records_after settings first events event =
+    records_between (published_memberships settings first events) (published_memberships settings first (events ++ event ∷ []))
 
 -- the item's text in a relay's run, and of an event a line for each of its change records
 abbrev pub item_text : Settings → Secret → List Event → ℕ → RelayItem → List ℕ
 item_text settings first events number (items.Event event) =
-    relay_item_text settings first events number (items.Event event) ++ flat_map change_line (records_of settings first events event)
+    relay_item_text settings first events number (items.Event event) ++ flat_map change_line (records_after settings first events event)
 item_text settings first events number items.Show = relay_item_text settings first events number items.Show
 
 -- the text of an item after those before it

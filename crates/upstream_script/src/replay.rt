@@ -4,10 +4,10 @@
 ghost use Rattle.std.specs.{Prelude.{◌≡◌, ◌≤◌, ◌∷◌, ◌++◌, [], flat_map, IfOk, IfSome, OnOk, OnErr, IsErrOf}, Io.KnownBytes.{Appends}};
 ghost use Rattle.amt_ports.specs.Causes.{Rose};
 ghost use Rattle.endpoint_membership.specs.Table.{ForLog, Holds, memberships_now};
-ghost use Rattle.amt_upstream.specs.Upstream.{StaysWithin, changes_between};
-ghost use Rattle.relay_machine.specs.{Accepted.{with_change}, Answers.{After as AfterEvents, rows_after}, Settings.{AreLawfulSettings}};
+ghost use Rattle.amt_upstream.specs.Upstream.{StaysWithin, records_between};
+ghost use Rattle.relay_machine.specs.{Accepted.{with_change}, Settings.{AreLawfulSettings}};
 ghost use Rattle.script_lines.specs.{Counting.{CountsWrites}, Running.{After, MayTake}, Writing.{WritesPrefix, WritesUpTo}};
-ghost use Rattle.amt_script.specs.{Running.{IsRunnable}, Texts.{rows_text}, declared.script.RelayItem.TheVariants.{Event as EventItem}};
+ghost use Rattle.amt_script.specs.{Running.{IsRunnable}, declared.script.RelayItem.TheVariants.{Event as EventItem}};
 ghost use Rattle.upstream_script.specs.{Running.{IsUpstreamAfter, MayCome}, Texts.{change_line, start_of, text_after, upstream_script_text}};
 
 use crate::text::append_changes;
@@ -29,7 +29,7 @@ fn append_taken(
 ) -> Result<(), AllocError>
     requires { IfSome change.now (StaysWithin upstream.old) }
     ensures text { ForLog upstream.old (λ settings log. OnOk result (text.new ≡ text.old
-        ++ flat_map change_line (changes_between (memberships_now settings log)
+        ++ flat_map change_line (records_between (memberships_now settings log)
         (memberships_now settings (with_change log change.now))))) }
     ensures next { ForLog upstream.old (λ settings log.
         OnOk result (Holds settings upstream.new (with_change log change.now))) }

@@ -1,6 +1,7 @@
 use Rattle.std.proofs.{Common.{rules, of_calls, ◌∙◌}, lemmas.Fn.{always_returns_same}}
 use Rattle.endpoint_membership.specs.{MembershipChanges.{change_order}}
-use Rattle.amt_upstream.proofs.{ChangesInOrder.{after-found, after-none, place_of}, JoinedByNumbers.{pair}}
+use Rattle.endpoint_membership.proofs.OwnFilters.{pair}
+use Rattle.amt_upstream.proofs.ChangesInOrder.{after-found, after-none, place_of}
 use Rattle.amt_upstream.proofs.looking.filter_after.Goals as goal
 
 pub returns-in-Ok : goal.returns-in-Ok

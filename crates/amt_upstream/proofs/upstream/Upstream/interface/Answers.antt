@@ -2,7 +2,8 @@ use Rattle.std.{proofs.{Common.{◌≡◌, IfOk, List, sym, ap, subst, ◌∙◌
 use Rattle.source_filter.specs.Filter.{FilterValue}
 use Rattle.endpoint_membership.specs.{Membership.{Membership}, Table.{TableValue}}
 use Rattle.amt_upstream.specs.Upstream.{AdmitsTheWanted, joined, upstream_filter}
-use Rattle.amt_upstream.proofs.{NumbersAfter.{rows_now}, WantedBySome.{AdmitsTheWanted-joined}}
+use Rattle.endpoint_membership.proofs.HoldsAfter.{rows_now}
+use Rattle.amt_upstream.proofs.WantedBySome.{AdmitsTheWanted-joined}
 use Rattle.amt_upstream.proofs.upstream.Upstream.interface.Goals as goal
 
 pub returns-clause-filter : goal.returns-clause-filter
