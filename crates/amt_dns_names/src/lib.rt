@@ -1,0 +1,14 @@
+//! DNS names, the name under which a source's relays are asked for, and the query for them.
+//!
+//! Contract: a name is read exactly where one stands in the octets of a message.
+//! It knows no record, socket or moment.
+//! Standard: RFC 1035, sections 2.3.4, 3.1 and 4.1; RFC 8777, sections 4 and 6.
+#![tactic(auto)]
+
+mod name;
+mod query;
+mod reverse;
+
+pub use name::Name;
+pub use query::write_query;
+pub use reverse::reverse_name;
