@@ -5,10 +5,15 @@
 //! Standard: RFC 1035, sections 2.3.4, 3.1 and 4.1; RFC 8777, sections 4 and 6.
 #![tactic(auto)]
 
+mod forms;
+mod laws;
 mod name;
 mod query;
+mod reading;
 mod reverse;
 
+pub use laws::places_have_one_name;
 pub use name::Name;
 pub use query::write_query;
+pub use reading::{ReadName, read_name};
 pub use reverse::reverse_name;

@@ -1,6 +1,6 @@
 //! DNS names.
 
-ghost use Rattle.std.specs.Prelude.{◌≡◌, ℕ, ◌+◌, ◌≤◌, List, [], ◌∷◌, ◌++◌, length, IfOk, OnOk, OnErr, IsTrue, ◌↔◌};
+ghost use Rattle.std.specs.Prelude.{◌≡◌, ℕ, ◌+◌, ◌≤◌, List, [], ◌∷◌, ◌++◌, length, IfOk, OnOk, OnErr, IsTrue, IsFalse, ◌<◌};
 ghost use Rattle.amt_dns_names.specs.{Name.{IsLabel, IsName, label_wire, name_wire}, NameAt.{NameAt}};
 
 use amt_values::{Bytes, Items};
@@ -63,7 +63,8 @@ impl Name {
     // Whether a label of so many octets still fits.
     pub(crate) fn has_room(&self, count: usize) -> bool
         requires { count ≤ 63 }
-        ensures { IsTrue result ↔ (length (name_wire self.now) + 1 + count ≤ 255) }
+        ensures fits { IsTrue result → length (name_wire self.now) + 1 + count ≤ 255 }
+        ensures long { IsFalse result → 255 < length (name_wire self.now) + 1 + count }
     {
         self.octets + 1 + count <= NAME_LIMIT
     }
