@@ -1,6 +1,6 @@
 -- Labels and the octets of names.
-use Rattle.std.proofs.{Common.{◌≡◌, ℕ, ◌+◌, ◌<◌, ◌≤◌, suc, zero, List, [], ◌∷◌, ◌++◌, length, get_or, refl, subst, arith, length-append}, lemmas.Grind.{common_steps, flat_map-append}}
-use Rattle.amt_dns_names.specs.Name.{IsLabel, AreLabels, IsName, label_wire, name_wire}
+use Rattle.std.proofs.{Common.{◌≡◌, ℕ, ◌+◌, ◌<◌, ◌≤◌, suc, zero, List, [], ◌∷◌, ◌++◌, length, get_or, subst, arith, length-append}, lemmas.Grind.{flat_map-append}}
+use Rattle.amt_dns_names.specs.Name.{IsLabel, AreLabels, IsName, name_wire}
 
 -- one more label takes its octets and its length octet
 pub length-pushed : (name : List (List ℕ)) (label : List ℕ)

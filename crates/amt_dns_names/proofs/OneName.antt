@@ -1,6 +1,6 @@
 -- A place has one name: each form that stands there excludes the others.
-use Rattle.std.proofs.{Common.{◌≡◌, ℕ, ◌+◌, ◌<◌, ◌≤◌, List, [], ◌∷◌, length, take, drop, slice_index, refl, sym, ap, subst, ◌∙◌, arith}}
-use Rattle.amt_dns_names.specs.{Name.{IsLabel}, NameAt.{IsOctetAt, IsLabelAt, IsPointerAt, PartAt, NameAt}}
+use Rattle.std.proofs.{Common.{◌≡◌, ℕ, ◌+◌, ◌≤◌, List, [], ◌∷◌, length, take, drop, refl, sym, ap, subst, ◌∙◌, arith}}
+use Rattle.amt_dns_names.specs.{NameAt.{IsOctetAt, IsLabelAt, IsPointerAt, PartAt, NameAt}}
 
 -- what follows a label
 pub record AfterLabel (bytes : List ℕ) (start at : ℕ) (label : List ℕ) (labels : List (List ℕ)) (end : ℕ) : Type 0 where

@@ -1,7 +1,6 @@
 -- Names and the places where they stand.
-use Rattle.std.proofs.{Common.{◌≡◌, ℕ, ◌+◌, ◌<◌, ◌≤◌, suc, zero, List, [], ◌∷◌, ◌++◌, length, get_or, take, drop, refl, sym, ap, subst, ◌∙◌, append_assoc, arith, length-append, length-drop}, Math.Seq.{take-append_seam, drop-append_seam}, lemmas.{List.{drop-drop, get_or-drop, length-take}, Grind.{common_steps}}}
-use Rattle.std.specs.List.{flat_map}
-use Rattle.amt_dns_names.specs.{Name.{IsLabel, AreLabels, IsName, label_wire, name_wire}, NameAt.{IsOctetAt, IsLabelAt, IsPointerAt, PartAt, NameAt}}
+use Rattle.std.proofs.{Common.{◌≡◌, ℕ, ◌+◌, suc, List, [], ◌∷◌, ◌++◌, length, get_or, take, drop, sym, ap, subst, ◌∙◌, append_assoc, arith, length-append, length-drop}, Math.Seq.{take-append_seam, drop-append_seam}, lemmas.{List.{drop-drop, get_or-drop}}}
+use Rattle.amt_dns_names.specs.{Name.{AreLabels, IsName, label_wire, name_wire}, NameAt.{IsOctetAt, PartAt, NameAt}}
 
 -- the first octet behind a place
 octet_behind : (bytes : List ℕ) (at x : ℕ) (xs : List ℕ) → drop at bytes ≡ x ∷ xs → IsOctetAt bytes at x

@@ -1,5 +1,5 @@
 -- The labels of reverse names, one after another.
-use Rattle.std.proofs.{Common.{◌≡◌, ℕ, ◌+◌, ◌<◌, ◌≤◌, ◌^◌, List, [], ◌∷◌, ◌++◌, length, refl, decimal, add-one, arith}, lemmas.Fmt.{decimal_nonempty, length-decimal-le}}
+use Rattle.std.proofs.{Common.{◌≡◌, ℕ, ◌+◌, ◌<◌, ◌≤◌, [], ◌∷◌, ◌++◌, length, refl, decimal, add-one, arith}, lemmas.Fmt.{decimal_nonempty, length-decimal-le}}
 use Rattle.amt_dns_names.specs.{Name.{IsLabel}, Reverse.{digit_above, digit_labels, digit_octet, octet_above, octet_labels}}
 
 pub octet_labels-more : (number count : ℕ) → octet_labels number (count + 1) ≡ octet_labels number count ++ decimal (octet_above number count) ∷ []

@@ -1,7 +1,7 @@
 -- The steps of a reader of names.
 use Rattle.std.proofs.{Common.{◌≡◌, ℕ, ◌+◌, ◌<◌, ◌≤◌, List, [], ◌∷◌, ◌++◌, length, Option, Some, None, refl, sym, ap, subst, ◌∙◌, append_assoc, append-nil, arith, length-append}, lemmas.Grind.{flat_map-append}}
 use Rattle.std.specs.Prelude.{IfNone, IfSome, unwrap_or}
-use Rattle.amt_dns_names.{specs.{Name.{label_wire, name_wire}, NameAt.{HasNoNameAt, IsOctetAt, IsLabelAt, IsPointerAt, PartAt, NameAt}, Reading.{GoesOn, Leads}}, proofs.OneName.{AfterLabel, AfterPointer, at_label, at_pointer, at_zero}}
+use Rattle.amt_dns_names.{specs.{Name.{name_wire}, NameAt.{HasNoNameAt, IsOctetAt, IsLabelAt, IsPointerAt, PartAt, NameAt}, Reading.{Leads}}, proofs.OneName.{at_label, at_pointer}}
 
 -- nothing is read, and the place is the name's
 pub Leads-start : (bytes : List ℕ) (at : ℕ) → Leads bytes at [] None at at
@@ -77,7 +77,7 @@ none_too_long bytes name_at read known start at label leads one long = λ labels
     let left = (Leads-label bytes name_at read known start at label leads one).only labels end name.part in
     let whole = ap (λ (all : List (List ℕ)). length (name_wire all)) left.whole in
     let parts : length (name_wire read) + 1 + length label ≤ length (name_wire ((read ++ label ∷ []) ++ left.rest)) =
-        simp (flat_map-append, length-append) (omega arith) in
+    simp (flat_map-append, length-append) (omega arith) in
     omega (arith, name.limit, long, whole, parts)
 
 no_form : (bytes : List ℕ) (start at : ℕ) (labels : List (List ℕ)) (end : ℕ) → PartAt bytes start at labels end

@@ -1,17 +1,22 @@
--- The query for a name's relays (RFC 1035, section 4.1; RFC 8777, section 4).
-use Rattle.std.specs.Prelude.{ℕ, List, [], ◌∷◌, ◌++◌}
+-- The query for the relays of a name (RFC 1035, section 4.1; RFC 8777, section 4).
+use Rattle.std.specs.{Prelude.{ℕ, List, [], ◌∷◌, ◌++◌}, List.{flat_map}}
 use Rattle.byteorder.specs.Endian.{big_bytes}
 use Rattle.amt_dns_names.specs.Name.{name_wire}
 
--- the flags of a standard query with recursion desired, and the counts: one question, nothing else
--- (section 4.1.1)
-abbrev pub flags_and_counts : List ℕ
-flags_and_counts = 1 ∷ 0 ∷ 0 ∷ 1 ∷ 0 ∷ 0 ∷ 0 ∷ 0 ∷ 0 ∷ 0 ∷ []
+-- numbers of 16 bits, one after another
+abbrev pub words : List ℕ → List ℕ
+words numbers = flat_map (big_bytes 2) numbers
 
--- the type AMTRELAY, 260 (RFC 8777, section 6), and the class IN, 1 (RFC 1035, section 3.2.4)
-abbrev pub type_and_class : List ℕ
-type_and_class = big_bytes 2 260 ++ big_bytes 2 1
+-- the head: the id, the flags of a standard query with recursion desired, and the counts, of which one
+-- is of a question and the others are of nothing (section 4.1.1)
+abbrev pub query_head : ℕ → List ℕ
+query_head id = words (id ∷ 0x0100 ∷ 1 ∷ 0 ∷ 0 ∷ 0 ∷ [])
+
+-- the question: the name, the type AMTRELAY (RFC 8777, section 6) and the class IN (RFC 1035, sections
+-- 4.1.2 and 3.2.4)
+abbrev pub question_of : List (List ℕ) → List ℕ
+question_of labels = name_wire labels ++ words (260 ∷ 1 ∷ [])
 
 -- head and question
 abbrev pub query_of : ℕ → List (List ℕ) → List ℕ
-query_of id labels = (big_bytes 2 id ++ flags_and_counts) ++ name_wire labels ++ type_and_class
+query_of id labels = query_head id ++ question_of labels

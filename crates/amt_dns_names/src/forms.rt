@@ -46,7 +46,11 @@ pub fn pointer_at(bytes: &[u8], start: usize, at: usize) -> Option<usize>
         return None;
     }
     let to = (u16_at(bytes, at) % 0x4000) as usize;
-    if leads_back(to, start) { Some(to) } else { None }
+    if leads_back(to, start) {
+        Some(to)
+    } else {
+        None
+    }
 }
 
 /// The end of a name whose last part a zero octet ends at the place, if one stands there: the end that

@@ -1,6 +1,6 @@
 //! Reading the name at a place of a message.
 
-ghost use Rattle.std.specs.Prelude.{◌≡◌, ℕ, ◌≤◌, List, [], length, Option, IfOk, IfSome, IfNone};
+ghost use Rattle.std.specs.Prelude.{◌≡◌, ℕ, ◌≤◌, List, [], length, Option, Some, IfOk, IfSome, IfNone};
 ghost use Rattle.amt_dns_names.specs.{NameAt.{HasNoNameAt, IsLabelAt, NameAt}, Reading.{Leads}};
 
 use crate::forms::{end_at, label_at, pointer_at};
@@ -16,7 +16,12 @@ pub struct ReadName {
 
 // Puts the labels that stand from the start of a part on at the end of a name, and gives the place
 // behind them; none where they make the name too long.
-fn read_labels(alloc: Global, bytes: &[u8], start: usize, name: &mut Name) -> Result<Option<usize>, AllocError>
+fn read_labels(
+    alloc: Global,
+    bytes: &[u8],
+    start: usize,
+    name: &mut Name,
+) -> Result<Option<usize>, AllocError>
     ensures leads { IfOk result (λ place. IfSome place (λ at. (name_at : ℕ) (known : Option ℕ)
         → Leads bytes.now name_at name.old known start start
         → Leads bytes.now name_at name.new known start at)) }
@@ -37,7 +42,12 @@ fn read_labels(alloc: Global, bytes: &[u8], start: usize, name: &mut Name) -> Re
 }
 
 // Follows the parts of the name at a place, puts its labels into an empty name, and gives its end.
-fn read_parts(alloc: Global, bytes: &[u8], at: usize, name: &mut Name) -> Result<Option<usize>, AllocError>
+fn read_parts(
+    alloc: Global,
+    bytes: &[u8],
+    at: usize,
+    name: &mut Name,
+) -> Result<Option<usize>, AllocError>
     requires empty { name.old ≡ [] }
     ensures some { IfOk result (λ end. IfSome end (λ end. NameAt bytes.now at name.new end)) }
     ensures none { IfOk result (λ end. IfNone end (HasNoNameAt bytes.now at)) }
@@ -60,16 +70,20 @@ fn read_parts(alloc: Global, bytes: &[u8], at: usize, name: &mut Name) -> Result
 /// Reads the name at a place of a message (RFC 1035, sections 3.1 and 4.1.4); none where no name
 /// stands there.
 ///
-/// It takes no more memory than a name of 255 octets, and no more steps than there are octets before
-/// the place, besides the labels.
+/// A pointer costs one step and no memory, however many a name has.
 pub fn read_name(alloc: Global, bytes: &[u8], at: u32) -> Result<Option<ReadName>, AllocError>
     requires { length bytes.now ≤ 65535 }
     ensures some { IfOk result (λ found. IfSome found (λ read. NameAt bytes.now at read.name read.end)) }
     ensures none { IfOk result (λ found. IfNone found (HasNoNameAt bytes.now at)) }
+    ensures only { (labels : List (List ℕ)) (end : ℕ) → NameAt bytes.now at labels end
+        → IfOk result (λ found. found ≡ Some (record { name = labels; end = end })) }
 {
     let mut name = Name::root(alloc);
     match read_parts(alloc, bytes, at as usize, &mut name)? {
-        Some(end) => Ok(Some(ReadName { name, end: end as u32 })),
+        Some(end) => Ok(Some(ReadName {
+            name,
+            end: end as u32,
+        })),
         None => Ok(None),
     }
 }

@@ -1,6 +1,6 @@
 -- A label more is read, or it makes the name too long.
-use Rattle.std.proofs.Common.{◌≡◌, ℕ, ◌+◌, ◌<◌, List, [], ◌∷◌, ◌++◌, length, refl, sym, subst, arith}
-use Rattle.amt_dns_names.{specs.{Name.{name_wire}, NameAt.{HasNoNameAt}, Reading.{Leads}}, proofs.Steps.{Leads-read, none_too_long}}
+use Rattle.std.proofs.Common.{refl}
+use Rattle.amt_dns_names.{proofs.Steps.{Leads-read, none_too_long}}
 use Rattle.amt_dns_names.proofs.reading.read_labels.Goals as goal
 
 pub returns-then-not-has_room-clause-none : goal.returns-then-not-has_room-clause-none

@@ -1,6 +1,5 @@
 -- Where no label and no pointer stands, a zero octet ends the name, or there is none.
-use Rattle.std.proofs.Common.{◌≡◌, ℕ, ◌≤◌, List, length, Option, Some, None}
-use Rattle.amt_dns_names.{specs.{NameAt.{HasNoNameAt, IsLabelAt, NameAt}, Reading.{Leads}}, proofs.Steps.{Leads-pointer, if_ended, if_broken}}
+use Rattle.amt_dns_names.{proofs.Steps.{Leads-pointer, if_ended, if_broken}}
 use Rattle.amt_dns_names.proofs.reading.read_parts.Goals as goal
 
 pub returns-in_default-pointer_at-clause-some : goal.returns-in_default-pointer_at-clause-some

@@ -1,6 +1,6 @@
 -- What was written of the labels is the name, which stands wherever its octets do.
-use Rattle.std.proofs.{Common.{◌≡◌, ℕ, ◌+◌, ◌<◌, ◌≤◌, List, [], ◌∷◌, ◌++◌, length, ap, arith}, lemmas.Grind.{common_steps}}
-use Rattle.amt_dns_names.{specs.{Name.{AreLabels, IsLabel, name_wire}, NameAt.{NameAt}}, proofs.{Names.{IsLabel-at, IsName-of}, Places.{NameAt-written}}}
+use Rattle.std.proofs.{Common.{◌≡◌, arith}, lemmas.Grind.{common_steps}}
+use Rattle.amt_dns_names.{specs.{Name.{AreLabels, name_wire}}, proofs.{Names.{IsLabel-at, IsName-of}, Places.{NameAt-written}}}
 use Rattle.amt_dns_names.proofs.name.Name.wire.Goals as goal
 
 pub append_label-requires : goal.append_label-requires
