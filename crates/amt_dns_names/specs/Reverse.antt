@@ -1,4 +1,4 @@
--- The name under which a source's relays are asked for (RFC 8777, section 4.1): that of its address in
+-- The name under which a source's relays are asked for (RFC 8777, section 2): that of its address in
 -- the reverse tree.
 use Rattle.std.specs.Prelude.{ℕ, zero, suc, ◌+◌, ◌*◌, ◌/◌, ◌%◌, ◌^◌, nat_lt, if◌then◌else◌, List, [], ◌∷◌, ◌++◌, codes, decimal}
 use Rattle.amt_values.specs.declared.address.Ip.{Ip, TheVariants.{V4, V6}}

@@ -2,7 +2,7 @@
 //!
 //! Contract: a name is read exactly where one stands in the octets of a message.
 //! It knows no record, socket or moment.
-//! Standard: RFC 1035, sections 2.3.4, 3.1 and 4.1; RFC 8777, sections 4 and 6.
+//! Standard: RFC 1035, sections 2.3.4, 3.1 and 4.1; RFC 8777, sections 2 and 4.1.
 #![tactic(auto)]
 
 mod forms;

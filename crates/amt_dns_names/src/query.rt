@@ -10,7 +10,7 @@ use std::alloc::{AllocError, Global};
 // A standard query with recursion desired; one question, and nothing else (RFC 1035, section 4.1.1).
 const FLAGS_AND_COUNTS: [u8; 10] = [1, 0, 0, 1, 0, 0, 0, 0, 0, 0];
 
-// AMTRELAY (RFC 8777, section 6) and IN (RFC 1035, section 3.2.4).
+// AMTRELAY (RFC 8777, section 4.1) and IN (RFC 1035, section 3.2.4).
 const TYPE_AND_CLASS: [u8; 4] = [1, 4, 0, 1];
 
 /// The query for the records of type AMTRELAY under a name (RFC 1035, section 4.1; RFC 8777, section

@@ -59,6 +59,7 @@ fn read_parts(
             return Ok(None);
         };
         let Some(to) = pointer_at(bytes, start, place) else {
+            // Its clause says that what was read is short enough.
             let _ = name.labels();
             return Ok(end_at(bytes, place, known));
         };

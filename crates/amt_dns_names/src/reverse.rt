@@ -64,7 +64,7 @@ fn digit_name(alloc: Global, number: u128) -> Result<Name, AllocError>
     Ok(name)
 }
 
-/// The name under which a source's relays are asked for (RFC 8777, section 4.1): of IPv4 the four
+/// The name under which a source's relays are asked for (RFC 8777, section 2): of IPv4 the four
 /// decimal numbers, last first, before `in-addr.arpa` (RFC 1035, section 3.5); of IPv6 the 32
 /// hexadecimal digits in lower case, last first, before `ip6.arpa` (RFC 3596, section 2.5).
 pub fn reverse_name(alloc: Global, source: &Ip) -> Result<Name, AllocError>
