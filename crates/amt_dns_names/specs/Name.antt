@@ -1,15 +1,10 @@
 -- DNS names and their octets (RFC 1035, section 3.1).
-use Rattle.std.specs.{Prelude.{ℕ, ◌≤◌, List, [], ◌∷◌, ◌++◌, length}, List.{flat_map}}
+use Rattle.std.specs.{Prelude.{ℕ, ◌≤◌, List, [], ◌∷◌, ◌++◌, length, All}, List.{flat_map}}
 
 -- a label has 1 to 63 octets (section 2.3.4)
 pub record IsLabel (label : List ℕ) : Type 0 where
   pub some : 1 ≤ length label
   pub most : length label ≤ 63
-
--- each is a label
-abbrev pub AreLabels : List (List ℕ) → Type 0
-AreLabels [] = Unit {0}
-AreLabels (label ∷ labels) = IsLabel label × AreLabels labels
 
 -- a label behind its length octet
 abbrev pub label_wire : List ℕ → List ℕ
@@ -21,5 +16,5 @@ name_wire labels = flat_map label_wire labels ++ 0 ∷ []
 
 -- at most 255 octets, with the length octets and the zero octet (section 2.3.4)
 pub record IsName (name : List (List ℕ)) : Type 0 where
-  pub labels : AreLabels name
+  pub labels : All IsLabel name
   pub limit : length (name_wire name) ≤ 255

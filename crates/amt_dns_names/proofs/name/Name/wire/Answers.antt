@@ -1,12 +1,12 @@
 -- What was written of the labels is the name, which stands wherever its octets do.
-use Rattle.std.proofs.{Common.{◌≡◌, arith}, lemmas.Grind.{common_steps}}
-use Rattle.amt_dns_names.{specs.{Name.{AreLabels, name_wire}}, proofs.{Names.{IsLabel-at, IsName-of}, Places.{NameAt-written}}}
+use Rattle.std.proofs.{Common.{◌≡◌, All, arith}, lemmas.Grind.{common_steps}}
+use Rattle.amt_dns_names.{specs.{Name.{IsLabel, name_wire}}, proofs.{Names.{IsName-of}, Places.{NameAt-written}}}
 use Rattle.amt_dns_names.proofs.name.Name.wire.Goals as goal
 
 pub append_label-requires : goal.append_label-requires
 append_label-requires c =
-    let all : AreLabels c.as_slice-label-items.result.now = rw c.as_slice-label-items.ensures c.self.invariant.0.labels in
-    let one = IsLabel-at c.as_slice-label-items.result.now c.loop-label.label-index c.label-item.result all (omega arith) in
+    let all : All IsLabel c.as_slice-label-items.result.now = rw c.as_slice-label-items.ensures c.self.invariant.0.labels in
+    let one = all c.loop-label.label-index c.label-item.result (omega arith) in
     rw (c.as_slice.ensures, c.label-item.is) one.most
 
 pub returns-clause-stands : goal.returns-clause-stands
