@@ -78,6 +78,7 @@ pub fn read_name(alloc: Global, bytes: &[u8], at: u32) -> Result<Option<ReadName
     ensures none { IfOk result (λ found. IfNone found (HasNoNameAt bytes.now at)) }
     ensures only { (labels : List (List ℕ)) (end : ℕ) → NameAt bytes.now at labels end
         → IfOk result (λ found. found ≡ Some (record { name = labels; end = end })) }
+    ensures within { IfOk result (λ found. IfSome found (λ read. read.end ≤ length bytes.now)) }
 {
     let mut name = Name::root(alloc);
     match read_parts(alloc, bytes, at as usize, &mut name)? {
