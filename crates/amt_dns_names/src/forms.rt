@@ -53,8 +53,8 @@ pub fn pointer_at(bytes: &[u8], start: usize, at: usize) -> Option<usize>
     }
 }
 
-/// The end of a name whose last part a zero octet ends at the place, if one stands there: the end that
-/// is known, or the place after that octet.
+/// The end of a name whose last part a zero octet ends at the place, if one stands there: the end
+/// that is known, or the place after that octet.
 pub fn end_at(bytes: &[u8], at: usize, known: Option<usize>) -> Option<usize>
     ensures some { IfSome result (λ end. IsOctetAt bytes.now at 0) }
     ensures end { IfSome result (λ end. end ≡ unwrap_or known (at + 1)) }

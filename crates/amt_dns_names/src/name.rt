@@ -27,7 +27,8 @@ impl Model for Name {
 
     ghost view = { λ name. name.labels };
 
-    ghost invariant = { λ name. IsName name.labels × (name.octets ≡ length (name_wire name.labels)) };
+    ghost invariant = { λ name. IsName name.labels
+        × (name.octets ≡ length (name_wire name.labels)) };
 
     ghost inverse = { λ labels. record { labels = labels; octets = length (name_wire labels) } };
 }

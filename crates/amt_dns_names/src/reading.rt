@@ -74,7 +74,8 @@ fn read_parts(
 /// A pointer costs one step and no memory, however many a name has.
 pub fn read_name(alloc: Global, bytes: &[u8], at: u32) -> Result<Option<ReadName>, AllocError>
     requires { length bytes.now ≤ 65535 }
-    ensures some { IfOk result (λ found. IfSome found (λ read. NameAt bytes.now at read.name read.end)) }
+    ensures some { IfOk result (λ found. IfSome found
+        (λ read. NameAt bytes.now at read.name read.end)) }
     ensures none { IfOk result (λ found. IfNone found (HasNoNameAt bytes.now at)) }
     ensures only { (labels : List (List ℕ)) (end : ℕ) → NameAt bytes.now at labels end
         → IfOk result (λ found. found ≡ Some (record { name = labels; end = end })) }
