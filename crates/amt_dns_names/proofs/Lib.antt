@@ -1,0 +1,5 @@
+pub mod Names
+pub mod Places
+pub mod Reverses
+pub mod OneName
+pub mod Steps

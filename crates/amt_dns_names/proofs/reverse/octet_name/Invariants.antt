@@ -1,0 +1,9 @@
+use Rattle.std.proofs.Common.{◌≡◌, ◌+◌, ◌*◌, ◌≤◌, length}
+use Rattle.amt_dns_names.specs.{Name.{name_wire}, Reverse.{octet_labels}}
+use Rattle.amt_dns_names.proofs.reverse.octet_name.Given as goal
+
+abbrev pub invariant-loop-below : goal.invariant-loop-below
+invariant-loop-below l = record {
+  labels : l.name ≡ octet_labels l.number l.below;
+  octets : length (name_wire l.name) ≤ 1 + 4 * l.below;
+}

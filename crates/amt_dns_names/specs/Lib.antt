@@ -1,0 +1,5 @@
+pub mod Name
+pub mod NameAt
+pub mod Reading
+pub mod Query
+pub mod Reverse
