@@ -5,7 +5,7 @@ usage: tools/plain-relay.sh AMT [SCRIPTS [SEED]]
 The model keeps every accepted entry and reckons what stands from the whole list anew, each time it is asked. It knows no
 map, no index and no expiry queue, and is written from docs/FORMATS.md and docs/BEHAVIOUR.md alone. A script has requests, updates
 and teardowns of few endpoints of both families with good, old and forged MACs, packets, secrets, changed limits, and moments
-before, at and after the end of a lifetime. What all endpoints together want is merged anew before and after each step.
+before, at and after the end of a lifetime; Discoveries, and datagrams that are refused. What all endpoints together want is merged anew before and after each step.
 It prints the first script whose text differs, and ends with status 1.
 """
 import hashlib
@@ -246,7 +246,9 @@ class Script:
         if dice.random() < 0.03:
             mac = bytes([mac[0] ^ 1]) + mac[1:]
         what = dice.random()
-        if what < 0.45:
+        if what < 0.04:
+            self.unheard(endpoint, nonce)
+        elif what < 0.45:
             records = some_records(dice, v6)
             octets = b"\x05\0" + mac + nonce + report_of(records, v6)
             self.say(f"dg {endpoint.peer} {octets.hex()}", *relay.update(endpoint, nonce, mac, records))
@@ -273,6 +275,14 @@ class Script:
             rows = list(relay.rows())
             self.say("show", f"rows {len(rows)}")
             self.text += rows
+
+    def unheard(self, endpoint, nonce):
+        """A Discovery, and datagrams that are no message for a relay, or come from no endpoint."""
+        advertisement = b"\x02\0\0\0" + nonce + bytes([192, 0, 2, 1])
+        self.say(*self.dice.choice((
+            (f"dg {endpoint.peer} {(bytes([1, 0, 0, 0]) + nonce).hex()}", "advertised", [(endpoint.peer, advertisement)]),
+            (f"dg {endpoint.peer} -", "refused empty"), (f"dg {endpoint.peer} 15", "refused version 1"),
+            (f"dg {endpoint.peer} {advertisement.hex()}", "wrongkind 2"), ("dg [::1]:5000 0100", "badsource"))))
 
     def packet(self, v6):
         source, group = self.dice.choice(SOURCES[v6]), self.dice.choice(GROUPS[v6])
