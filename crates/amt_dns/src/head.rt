@@ -1,6 +1,6 @@
 //! The head of an answer, and fields behind names.
 
-ghost use Rattle.std.specs.Prelude.{◌≡◌, ◌<◌, ◌≤◌, ◌↔◌, length, IsTrue, IfSome, IfNone};
+ghost use Rattle.std.specs.Prelude.{◌≡◌, ◌+◌, ◌<◌, ◌≤◌, ◌↔◌, length, IsTrue, IfSome, IfNone};
 ghost use Rattle.amt_values.specs.Conditions.{first_holding};
 ghost use Rattle.amt_dns.specs.{Answer.{IsOfRelays, answer_count, data_end}, Fault.{head_faults}};
 
@@ -51,7 +51,8 @@ pub fn answer_count(bytes: &[u8]) -> u16
 /// Whether the type and the class at the place are those of relays.
 pub fn is_of_relays(bytes: &[u8], at: usize) -> bool
     requires { at ≤ length bytes.now }
-    ensures { IsTrue result ↔ IsOfRelays bytes.now at }
+    ensures are { IsTrue result ↔ IsOfRelays bytes.now at }
+    ensures within { IsTrue result → at + 4 ≤ length bytes.now }
 {
     let (_, fields) = bytes.split_at(at);
     fields.starts_with(&RELAYS)
