@@ -21,7 +21,8 @@ fn source<'a>(found: &ArgMatches<'a>) -> Word<'a>
 /// The source that the words after `dns` give.
 pub fn read_dns<'a>(alloc: Global, words: &'a [String]) -> Result<Word<'a>, WordsFault>
     ensures taken { IfOk result (λ given. Takes dns_usage (map string_bytes words.entry.now)) }
-    ensures given { IfOk result (λ given. word_in dns_usage (codes "SOURCE") (map string_bytes words.entry.now) ≡ Some given) }
+    ensures given { IfOk result (λ given. word_in dns_usage (codes "SOURCE") (map string_bytes words.entry.now)
+        ≡ Some given) }
     ensures usage { IsErrOf result WordsFault.Usage
         → Takes dns_usage (map string_bytes words.entry.now) → ⊥ }
 {
