@@ -6,7 +6,7 @@ use Rattle.amt_dns_names.{specs.NameAt.{HasNoNameAt, NameAt}, proofs.OneName.{Na
 use Rattle.amt_dns.specs.{declared.{fault.DnsFault.{DnsFault, TheVariants.{Data, Name, Record}}, found.{Found.{Found}, Relay.{Relay}}}, Answer.{AreRecords, AsksFor, IsAnswer, IsHead, IsOfRelays, IsQuestion, IsRecord, IsRelay, Says, Tells, answer_count, data_end, data_place, relay_length, relay_type}, Fault.{IsDataFault, IsFaultAmong, IsFirstFault, IsQuestionFault, IsRecordFault, head_faults}}
 use Rattle.amt_dns.specs.declared.found.Relay.TheVariants as relays
 
--- the question
+-- one question has one end, and no fault or one
 question_end : (name : List (List ℕ)) (bytes : List ℕ) (one other : ℕ) → IsQuestion name bytes one → IsQuestion name bytes other → one ≡ other
 question_end name bytes one other first second =
     let same = NameAt-unique bytes 12 first.labels second.labels first.behind second.behind first.named second.named in
@@ -26,7 +26,7 @@ question_fault name bytes one other (IsQuestionFault.no_name none) (IsQuestionFa
 question_fault name bytes one other (IsQuestionFault.other labels behind named _) (IsQuestionFault.no_name none) = absurd (none labels behind named)
 question_fault name bytes one other (IsQuestionFault.other _ _ _ _) (IsQuestionFault.other _ _ _ _) = refl
 
--- a relay
+-- one relay stands there
 relay_same : (bytes : List ℕ) (kind at end : ℕ) (one other : Relay) → IsRelay bytes kind at end one → IsRelay bytes kind at end other → one ≡ other
 relay_same bytes kind at end relays.None relays.None first second = refl
 relay_same bytes kind at end (relays.At (V4 one)) (relays.At (V4 other)) first second = cc
@@ -37,7 +37,7 @@ relay_same bytes kind at end relays.None (relays.At (V4 _)) first second = absur
 relay_same bytes kind at end (relays.Named _) (relays.At (V4 _)) first second = absurd (omega arith)
 relay_same bytes kind at end one other first second = absurd (omega (arith, first.0, second.0))
 
--- where it ends, and which name it has
+-- its type is one of the four, which says where it ends or that a name stands there
 relay_known : (bytes : List ℕ) (kind at end : ℕ) (relay : Relay) → IsRelay bytes kind at end relay → kind ≤ 3
 relay_known bytes kind at end relays.None is = omega arith
 relay_known bytes kind at end (relays.At (V4 _)) is = omega arith
@@ -57,13 +57,17 @@ relay_named bytes kind at end relays.None is named = absurd (omega arith)
 relay_named bytes kind at end (relays.At (V4 _)) is named = absurd (omega arith)
 relay_named bytes kind at end (relays.At (V6 _)) is named = absurd (omega arith)
 
--- the data of a record of relays
+-- data tell one thing, and have no fault or one
 tells_same : (bytes : List ℕ) (begin end : ℕ) (one other : Found) → Tells bytes begin end one → Tells bytes begin end other → one ≡ other
 tells_same bytes begin end one other first second =
     let precedence = first.precedence ∙ sym second.precedence in
     let direct = first.direct ∙ sym second.direct in
     let relay = relay_same bytes (relay_type bytes begin) (begin + 2) end one.relay other.relay first.relay second.relay in
     λ i. record { precedence = precedence i; direct = direct i; relay = relay i }
+
+known_kind : (bytes : List ℕ) (begin end : ℕ) (found : Found) → Tells bytes begin end found → 3 < relay_type bytes begin → ⊥
+known_kind bytes begin end found tells above =
+    omega (arith, relay_known bytes (relay_type bytes begin) (begin + 2) end found.relay tells.relay)
 
 no_data_fault : (bytes : List ℕ) (number begin end : ℕ) (found : Found) (fault : DnsFault) → Tells bytes begin end found
     → IsDataFault bytes number begin end fault → ⊥
@@ -90,11 +94,7 @@ data_fault_same bytes number begin end one other (IsDataFault.no_name long kind 
 data_fault_same bytes number begin end one other first (IsDataFault.no_name long kind none) = sym (no_name_fault bytes number begin end one long kind none first)
 data_fault_same bytes number begin end one other first second = refl
 
-known_kind : (bytes : List ℕ) (begin end : ℕ) (found : Found) → Tells bytes begin end found → 3 < relay_type bytes begin → ⊥
-known_kind bytes begin end found tells above =
-    omega (arith, relay_known bytes (relay_type bytes begin) (begin + 2) end found.relay tells.relay)
-
--- what a record says
+-- a record says one thing, and none at fault says any
 says_same : (bytes : List ℕ) (behind : ℕ) (one other : List Found) → Says bytes behind one → Says bytes behind other → one ≡ other
 says_same bytes behind one other (Says.relay first _ here) (Says.relay second _ there) =
     ap (λ (found : Found). found ∷ []) (tells_same bytes (data_place behind) (data_end bytes behind) first second here there)
@@ -113,7 +113,7 @@ says_no_fault bytes number behind found fault (Says.unknown _ long kind) is (IsD
 says_no_fault bytes number behind found fault (Says.unknown _ long kind) is (IsDataFault.no_name _ three _) = omega arith
 says_no_fault bytes number behind found fault (Says.unknown _ long kind) is (IsDataFault.other_end _ _ _ three _ _) = omega arith
 
--- what a record is whose owner's name ends at a place
+-- what a record is, by the place where its owner's name ends
 record Fields (bytes : List ℕ) (behind : ℕ) (found : List Found) (end : ℕ) : Type 0 where
   says : Says bytes behind found
   ends : end ≡ data_end bytes behind
@@ -139,7 +139,7 @@ no_record_fault bytes number at found end fault one (IsRecordFault.cut owner beh
 no_record_fault bytes number at found end fault one (IsRecordFault.data_fault owner behind _ named _ is wrong) =
     let here = fields bytes at owner behind found end named one in says_no_fault bytes number behind found fault here.says is wrong
 
--- what is wrong with a record whose owner's name ends at a place
+-- what is wrong with a record, by the place where its owner's name ends
 data FieldsFault (bytes : List ℕ) (number behind : ℕ) : DnsFault → Type 0 where
   cut : length bytes < data_end bytes behind → FieldsFault bytes number behind (Record number)
   data_fault : (fault : DnsFault) → data_end bytes behind ≤ length bytes
@@ -174,7 +174,7 @@ record_fault bytes number at one other (IsRecordFault.cut owner behind named sho
 record_fault bytes number at one other (IsRecordFault.data_fault owner behind _ named whole _ wrong) second =
     fields_fault_same bytes number behind one other (FieldsFault.data_fault one whole wrong) (fields_fault bytes number at owner behind other named second)
 
--- records one after another
+-- as many records say one thing and have one end
 records_same : (bytes : List ℕ) (start many count : ℕ) (one other : List Found) (end last : ℕ) → many ≡ count
     → AreRecords bytes start many one end → AreRecords bytes start count other last → (one ≡ other) × (end ≡ last)
 records_same bytes start many count one other end last is AreRecords.none AreRecords.none = (refl, refl)
@@ -185,36 +185,35 @@ records_same bytes start many count one other end last is (AreRecords.more n at 
     let here = record_same bytes place one_last other_last end last (rw (← same.1) record_here) there in
     (cc, here.1)
 
--- the record at each place among them
+-- none of the records up to their count is at fault
 no_fault_among : (bytes : List ℕ) (start count : ℕ) (all : List Found) (end number at : ℕ) (found : List Found) (fault : DnsFault)
     → AreRecords bytes start count all end → number < count → AreRecords bytes start number found at → IsRecordFault bytes number at fault → ⊥
 no_fault_among bytes start count all end number at found fault AreRecords.none less before is = omega arith
 no_fault_among bytes start count all end number at found fault (AreRecords.more n place _ earlier last records here) less before is =
     elim (cases_lt number n) [
-      inl lower ↦ no_fault_among bytes start n earlier place number at found fault records lower before is
+      | inl lower ↦ no_fault_among bytes start n earlier place number at found fault records lower before is
       | inr not ↦
-        let same = records_same bytes start number n found earlier at place (omega arith) before records in
-        no_record_fault bytes number place last end fault here (rw (← same.1) is)
+          let same = records_same bytes start number n found earlier at place (omega arith) before records in
+          no_record_fault bytes number place last end fault here (rw (← same.1) is)
     ]
 
 fault_among : (bytes : List ℕ) (start count : ℕ) (one other : DnsFault) → IsFaultAmong bytes start count one → IsFaultAmong bytes start count other → one ≡ other
 fault_among bytes start count one other first second =
     elim (cases_lt first.number second.number) [
-      inl less ↦ absurd (no_fault_among bytes start second.number second.found second.at first.number first.at first.found one second.before less first.before first.is)
+      | inl less ↦ absurd (no_fault_among bytes start second.number second.found second.at first.number first.at first.found one second.before less first.before first.is)
       | inr not ↦ elim (cases_lt second.number first.number) [
-        inl less ↦ absurd (no_fault_among bytes start first.number first.found first.at second.number second.at second.found other first.before less second.before second.is)
+        | inl less ↦ absurd (no_fault_among bytes start first.number first.found first.at second.number second.at second.found other first.before less second.before second.is)
         | inr neither ↦
-          let number : second.number ≡ first.number = omega arith in
-          let place = (records_same bytes start second.number first.number second.found first.found second.at first.at number second.before first.before).1 in
-          record_fault bytes first.number first.at one other first.is (rw (← number, ← place) second.is)
+            let number : second.number ≡ first.number = omega arith in
+            let place = (records_same bytes start second.number first.number second.found first.found second.at first.at number second.before first.before).1 in
+            record_fault bytes first.number first.at one other first.is (rw (← number, ← place) second.is)
       ]
     ]
 
--- the head
+-- a head has no fault
 no_head_fault : (id : ℕ) (bytes : List ℕ) (fault : DnsFault) → IsHead id bytes → first_holding (head_faults id bytes) ≡ Some fault → ⊥
 no_head_fault id bytes fault head is = grind arith
 
--- the whole
 pub IsAnswer-unique : (id : ℕ) (name : List (List ℕ)) (one other : List Found) (bytes : List ℕ) → IsAnswer id name one bytes → IsAnswer id name other bytes → one ≡ other
 IsAnswer-unique id name one other bytes first second =
     let same = question_end name bytes second.start first.start second.question first.question in

@@ -41,12 +41,7 @@ fn read_records(
 /// reverse tree may be reached through others. What follows the answers may be any. The faults come in the order of
 /// `DnsFault` for the head, and then in the order of the octets. Memory is asked once the head is read; running out
 /// may come before a later fault.
-pub fn read_answer(
-    alloc: Global,
-    bytes: &[u8],
-    id: u16,
-    name: &Name,
-) -> Result<FoundList, DnsFault>
+pub fn read_answer(alloc: Global, bytes: &[u8], id: u16, name: &Name) -> Result<FoundList, DnsFault>
     requires { length bytes.now ≤ 65535 }
     ensures found { IfOk result (λ found. IsAnswer id name.now found bytes.now) }
     ensures only { (found : List FoundValue) → IsAnswer id name.now found bytes.now

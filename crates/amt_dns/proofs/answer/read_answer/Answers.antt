@@ -33,7 +33,7 @@ pub returns-in_err-start-clause-refused : goal.returns-in_err-start-clause-refus
 returns-in_err-start-clause-refused c =
     let left = err_from_is_err_and c.from_residual.result c.from_residual.ensures.1 in
     rw (left.1, left.2) (λ not. IsFirstFault.in_question c.in_err-start.field-0.0
-      (whole_head c.args.id c.args.bytes.now (sym c.head_fault.ensures ∙ c.in_default.is)) (c.in_err-start.ensures.refused not))
+    (whole_head c.args.id c.args.bytes.now (sym c.head_fault.ensures ∙ c.in_default.is)) (c.in_err-start.ensures.refused not))
 
 pub returns-in_err-start-clause-only : goal.returns-in_err-start-clause-only
 returns-in_err-start-clause-only c =
@@ -60,7 +60,7 @@ pub returns-clause-refused : goal.returns-clause-refused
 returns-clause-refused c =
     let head = whole_head c.args.id c.args.bytes.now (sym c.head_fault.ensures ∙ c.in_default.is) in
     IfErr-weaker c.read_records.result _ _ (λ fault is not.
-      IsFirstFault.in_record fault c.in_ok-start.start head c.in_ok-start.ensures.question (rw (← c.answer_count.ensures) (is not))) c.read_records.ensures.refused
+    IsFirstFault.in_record fault c.in_ok-start.start head c.in_ok-start.ensures.question (rw (← c.answer_count.ensures) (is not))) c.read_records.ensures.refused
 
 pub returns-clause-only : goal.returns-clause-only
 returns-clause-only c =
