@@ -1,9 +1,9 @@
 -- Octets are one answer at most, or have one first fault: each outcome of a place excludes the others.
 use Rattle.std.proofs.lemmas.Bool.{cases_lt}
-use Rattle.std.proofs.Common.{◌≡◌, ℕ, ◌+◌, ◌<◌, ◌≤◌, List, [], ◌∷◌, ◌++◌, length, inl, inr, refl, sym, ap, subst, ◌∙◌, Some, arith}
+use Rattle.std.proofs.Common.{◌≡◌, ℕ, ◌+◌, ◌<◌, ◌≤◌, List, [], ◌∷◌, length, inl, inr, refl, sym, ap, subst, ◌∙◌, Some, arith}
 use Rattle.amt_values.specs.{Conditions.{first_holding}, declared.address.Ip.TheVariants.{V4, V6}}
 use Rattle.amt_dns_names.{specs.NameAt.{HasNoNameAt, NameAt}, proofs.OneName.{NameAt-unique}}
-use Rattle.amt_dns.specs.{declared.{fault.DnsFault.{DnsFault, TheVariants.{Data, Name, Record}}, found.{Found.{Found}, Relay.{Relay}}}, Answer.{AreRecords, AsksFor, IsAnswer, IsHead, IsOfRelays, IsQuestion, IsRecord, IsRelay, Says, Tells, answer_count, data_end, data_place, relay_length, relay_type}, Fault.{IsDataFault, IsFaultAmong, IsFirstFault, IsQuestionFault, IsRecordFault, head_faults}}
+use Rattle.amt_dns.specs.{declared.{fault.DnsFault.{DnsFault, TheVariants.{Name, Record}}, found.{Found.{Found}, Relay.{Relay}}}, Answer.{AreRecords, IsAnswer, IsHead, IsOfRelays, IsQuestion, IsRecord, IsRelay, Says, Tells, answer_count, data_end, data_place, relay_length, relay_type}, Fault.{IsDataFault, IsFaultAmong, IsFirstFault, IsQuestionFault, IsRecordFault, head_faults}}
 use Rattle.amt_dns.specs.declared.found.Relay.TheVariants as relays
 
 -- one question has one end, and no fault or one
