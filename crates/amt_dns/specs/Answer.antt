@@ -1,6 +1,6 @@
 -- Which octets answer the query for a name's relays, and which relays they tell (RFC 1035, section 4.1;
 -- RFC 8777, section 4.2).
-use Rattle.std.specs.{Prelude.{◌≡◌, ℕ, suc, ◌+◌, ◌/◌, ◌%◌, ◌^◌, ◌≤◌, ◌<◌, ◌==◌, if◌then◌else◌, List, [], ◌∷◌, ◌++◌, length, map, take, drop, slice_index}, Str.{str_to_ascii_lowercase}}
+use Rattle.std.specs.{Prelude.{◌≡◌, ℕ, ◌+◌, ◌/◌, ◌%◌, ◌^◌, ◌≤◌, ◌<◌, ◌==◌, if◌then◌else◌, List, [], ◌∷◌, ◌++◌, length, map, take, drop, slice_index}, Str.{str_to_ascii_lowercase}}
 use Rattle.byteorder.specs.Endian.{big_number}
 use Rattle.amt_values.specs.declared.address.Ip.TheVariants.{V4, V6}
 use Rattle.amt_dns_names.specs.{NameAt.{NameAt}, Query.{words}}
