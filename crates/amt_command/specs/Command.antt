@@ -8,9 +8,8 @@ use Rattle.amt_words.specs.declared.command.{Command.{Command, TheVariants.{Dump
 use Rattle.gateway_script.specs.{Script.{gateway_kind}, Texts.{gateway_script_text}, declared.script.GatewayScript.{GatewayScript}}
 use Rattle.pair_script.specs.{Script.{pair_kind}, Texts.{pair_script_text}, declared.script.PairScript.{PairScript}}
 use Rattle.relay_load.specs.{Counts.{summary_of}, Script.{load_script_of}, Texts.{load_text}}
-use Rattle.script_lines.specs.Script.{IsFaultAt}
 use Rattle.upstream_script.specs.Texts.{upstream_script_text}
-use Rattle.amt_command.specs.Task.{Task, Work, making, reading, replay_task, serving}
+use Rattle.amt_command.specs.Task.{TellsLine, Task, Work, making, reading, replay_task, serving}
 
 -- relay, gateway and pair scripts, each with the text of its run, and relay scripts with what the relay's own network
 -- has to hear besides
@@ -28,11 +27,11 @@ upstream_task = replay_task relay_kind upstream_script_text
 
 -- lines of hexadecimal digits, with the text of their messages
 abbrev pub dump_task : Task (List ℕ)
-dump_task = record { Reads = IsDump; HasFault = IsFaultAt dump_kind; text = λ text. text; difference = λ text. None }
+dump_task = record { Reads = IsDump; HasFault = TellsLine dump_kind; text = λ text. text; difference = λ text. None }
 
 -- vector rows, with the number of those that passed, or the first that differs
 abbrev pub vectors_task : Task SuiteReport
-vectors_task = record { Reads = IsVectorsReport; HasFault = IsFaultAt vector_kind; text = suite_text; difference = difference_of }
+vectors_task = record { Reads = IsVectorsReport; HasFault = TellsLine vector_kind; text = suite_text; difference = difference_of }
 
 -- what a command does
 abbrev pub work_of : Command → Work
