@@ -3,7 +3,7 @@
 #
 # usage: tools/run-examples.sh [COMMAND]      COMMAND is the binary of `amt`, and crates/amt/out/amt without it
 #
-# A folder of examples/ with a `script` is replayed, as its README says. One with a `run.sh` is run over the loopback,
+# A folder of examples/ with a `script` is replayed, and an `answer` of DNS is told, as its README says. One with a `run.sh` is run over the loopback,
 # for some seconds; where it has a script besides, its status counts alone. In the `expected` of such a run NONCE, MAC
 # and PORT stand for what is random, and N for a number that depends on how often a message had to be sent again. A line
 # that comes several times in a row, as a message that is sent again, counts once. A folder with neither has nothing to
@@ -53,14 +53,19 @@ say() {
     fi
 }
 
-replay() {
-    local kind status=0
-    kind=$(grep -o -m 1 'replay \(relay\|upstream\|gateway\|pair\) <' "$1/README.md" | cut -d ' ' -f 2)
-    $amt replay "$kind" < "$1/script" > "$work/output" 2> "$work/said" || status=$?
+# tell FOLDER INPUT COMMAND: what the command writes for the input is as expected
+tell() {
+    local status=0
+    $amt $3 < "$1/$2" > "$work/output" 2> "$work/said" || status=$?
     if [ $status = 0 ]; then
         diff "$1/expected" "$work/output" > "$work/said" || status=$?
     fi
-    say "$(basename "$1")" "replay $kind" $status
+    say "$(basename "$1")" "$3" $status
+}
+
+# named PATTERN FOLDER: the command in the README that fits
+named() {
+    grep -o -m 1 "$1 <" "$2/README.md" | sed 's/ <$//'
 }
 
 # run_once FOLDER: runs it over the loopback
@@ -83,8 +88,9 @@ run() {
 
 for folder in "$top"/examples/*/; do
     folder=${folder%/}
-    if [ -e "$folder/script" ]; then replay "$folder"; fi
+    if [ -e "$folder/script" ]; then tell "$folder" script "$(named 'replay \(relay\|upstream\|gateway\|pair\)' "$folder")"; fi
+    if [ -e "$folder/answer" ]; then tell "$folder" answer "$(named 'dns [0-9a-f.:]*' "$folder")"; fi
     if [ -e "$folder/run.sh" ]; then run "$folder"; fi
-    if [ ! -e "$folder/script" ] && [ ! -e "$folder/run.sh" ]; then echo "nothing $(basename "$folder")"; fi
+    if [ ! -e "$folder/script" ] && [ ! -e "$folder/answer" ] && [ ! -e "$folder/run.sh" ]; then echo "nothing $(basename "$folder")"; fi
 done
 exit $failed

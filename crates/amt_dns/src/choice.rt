@@ -9,20 +9,21 @@ use crate::found::FoundList;
 /// from 0; none of an empty list. It takes no memory.
 ///
 /// A relay `None` may be chosen: then the source has none.
+#[tactic(auto, using(crate::proofs::Choices::chosen_at))]
 pub fn choose(found: &FoundList) -> Option<u32>
     requires { length found.now ≤ 2 ^ 32 }
     ensures some { IfSome result (λ place. (chosen : FoundValue) × IsChosen found.now place chosen) }
     ensures none { IfNone result (found.now ≡ []) }
 {
-    let mut chosen: Option<(u32, u8)> = None;
-    for (place, one) in found.as_slice().iter().enumerate() {
-        let is_better = match chosen {
-            Some((_, least)) => one.precedence < least,
-            None => true,
-        };
-        if is_better {
-            chosen = Some((place as u32, one.precedence));
+    let list = found.as_slice();
+    if list.is_empty() {
+        return None;
+    }
+    let mut place = 0;
+    for (index, one) in list.iter().enumerate() {
+        if one.precedence < list[place].precedence {
+            place = index;
         }
     }
-    chosen.map(|found| found.0)
+    Some(place as u32)
 }

@@ -1,15 +1,14 @@
 //! The head of an answer, and fields behind names.
 
-ghost use Rattle.std.specs.Prelude.{◌≡◌, ◌<◌, ◌≤◌, ◌↔◌, length, IsTrue, IfSome, IfNone};
+ghost use Rattle.std.specs.Prelude.{◌≡◌, ◌+◌, ◌<◌, ◌≤◌, ◌↔◌, length, IsTrue, IfSome, IfNone};
 ghost use Rattle.amt_values.specs.Conditions.{first_holding};
 ghost use Rattle.amt_dns.specs.{Answer.{IsOfRelays, answer_count, data_end}, Fault.{head_faults}};
 
 use crate::fault::DnsFault;
 use amt_values::u16_at;
 
-// AMTRELAY (RFC 8777, section 4.1) and IN (RFC 1035, section 3.2.4).
-const RELAYS: u16 = 260;
-const INTERNET: u16 = 1;
+// The type AMTRELAY, 260 (RFC 8777, section 4.1), and the class IN, 1 (RFC 1035, section 3.2.4).
+const RELAYS: [u8; 4] = [1, 4, 0, 1];
 
 /// The octets of a head (RFC 1035, section 4.1.1).
 const HEAD: usize = 12;
@@ -52,9 +51,11 @@ pub fn answer_count(bytes: &[u8]) -> u16
 /// Whether the type and the class at the place are those of relays.
 pub fn is_of_relays(bytes: &[u8], at: usize) -> bool
     requires { at ≤ length bytes.now }
-    ensures { IsTrue result ↔ IsOfRelays bytes.now at }
+    ensures are { IsTrue result ↔ IsOfRelays bytes.now at }
+    ensures within { IsTrue result → at + 4 ≤ length bytes.now }
 {
-    bytes.len() - at >= 4 && u16_at(bytes, at) == RELAYS && u16_at(bytes, at + 2) == INTERNET
+    let (_, fields) = bytes.split_at(at);
+    fields.starts_with(&RELAYS)
 }
 
 /// Where the data of the record end that has its fields from a place on, if all of it is there.

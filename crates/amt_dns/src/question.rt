@@ -34,15 +34,11 @@ fn are_alike(labels: &[Bytes], name: &[Bytes]) -> bool
     if labels.len() != name.len() {
         return false;
     }
-    let mut left = name;
-    for label in labels {
-        let Some((other, rest)) = left.split_first() else {
-            return false;
-        };
-        if !label.as_slice().eq_ignore_ascii_case(other.as_slice()) {
+    for (place, label) in labels.iter().enumerate() {
+        let other = name[place].as_slice();
+        if !label.as_slice().eq_ignore_ascii_case(other) {
             return false;
         }
-        left = rest;
     }
     true
 }

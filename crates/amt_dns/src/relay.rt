@@ -46,9 +46,14 @@ pub fn read_data(
     if end - begin < 2 {
         return Err(DnsFault::Data(number));
     }
-    let kind = bytes[begin + 1] & 127;
+    let kind = bytes[begin + 1] % 128;
     let relay = match kind {
-        0..=2 => address_at(bytes, kind, begin + 2, end).ok_or(DnsFault::Data(number))?,
+        0..=2 => {
+            let Some(relay) = address_at(bytes, kind, begin + 2, end) else {
+                return Err(DnsFault::Data(number));
+            };
+            relay
+        }
         3 => {
             let read = name_at(alloc, bytes, begin + 2)?;
             if read.end as usize != end {

@@ -2,6 +2,7 @@ mod Digits
 mod Naming
 mod Numbers
 mod Optional
+mod PlainDns
 mod PlainGateway
 mod PlainLines
 mod PlainRelay

@@ -1,7 +1,7 @@
 -- Which command the arguments name, and what they give it.
 use Rattle.std.specs.{Prelude.{◌≡◌, ◌≤◌, ⊤, ℕ, List, [], ◌∷◌, ◌++◌, Option, Some, None, codes, IfSome, option_map, unwrap_or}, List.{Any}, Str.Parse.{IsNumeral, digits_value, without_leading_plus}}
 use Rattle.clap.specs.{Lexer.{strip_byte}, Words.{App, Text, first_of, matches_of, one_of, subcommand_of}}
-use Rattle.amt_words.specs.{declared.command.{Command.{Command, TheVariants.{Replay, Dump, Vectors, Load, Relay, Gateway}}, Replayable.{Replayable}}, Usage.{Takes, dump_usage, gateway_usage, load_usage, relay_usage, replay_usage, replayable_name, usages, vectors_usage}}
+use Rattle.amt_words.specs.{declared.command.{Command.{Command, TheVariants.{Replay, Dump, Vectors, Load, Relay, Gateway, Dns}}, Replayable.{Replayable}}, Usage.{Takes, dns_usage, dump_usage, gateway_usage, load_usage, relay_usage, replay_usage, replayable_name, usages, vectors_usage}}
 
 -- the written definition of a command
 abbrev pub usage_of : Command → App
@@ -11,6 +11,7 @@ usage_of Vectors = vectors_usage
 usage_of (Load seed count) = load_usage
 usage_of (Relay file turns workers) = relay_usage
 usage_of (Gateway file turns) = gateway_usage
+usage_of (Dns source) = dns_usage
 
 -- the number that an unsigned type reads from a text: decimal digits, where a plus may stand first
 abbrev pub number_of : Text → ℕ
@@ -55,6 +56,7 @@ Gives Vectors words = ⊤
 Gives (Load seed count) words = GivesLoad seed count words
 Gives (Relay file turns workers) words = GivesRelay file turns workers words
 Gives (Gateway file turns) words = GivesRun gateway_usage file turns words
+Gives (Dns source) words = word_in dns_usage (codes "SOURCE") words ≡ Some source
 
 -- the arguments are the command's name, words that its written definition takes, and those give
 -- what it holds
@@ -88,6 +90,7 @@ IsWithinLimits Vectors = ⊤
 IsWithinLimits (Load seed count) = IsLoadCount count
 IsWithinLimits (Relay file turns workers) = IsTurns turns × AreWorkers workers
 IsWithinLimits (Gateway file turns) = IsTurns turns
+IsWithinLimits (Dns source) = ⊤
 
 -- decimal digits of a number from least to most
 abbrev pub IsNumberIn : ℕ → ℕ → Text → Type 0
@@ -103,8 +106,8 @@ option_words name (Some number) = name ∷ number ∷ []
 abbrev pub IsPlainWord : Text → Type 0
 IsPlainWord word = strip_byte 45 word ≡ None
 
--- the plain line of each command is one of its lines: numbers are decimal digits, and a file doesn't
--- begin with a hyphen
+-- the plain line of each command is one of its lines: numbers are decimal digits, and a file or a source
+-- doesn't begin with a hyphen
 pub record TakesPlainLines : Type 0 where
   pub replay : (kind : Replayable)
       → IsCommandLine (Replay kind) (codes "replay" ∷ replayable_name kind ∷ [])
@@ -123,3 +126,4 @@ pub record TakesPlainLines : Type 0 where
       → IfSome turns (IsNumberIn 1 1099511627776)
       → IsCommandLine (Gateway file (turns_or_most (option_map (digits_value 10) turns)))
       (codes "gateway" ∷ file ∷ option_words (codes "--turns") turns)
+  pub dns : (source : Text) → IsPlainWord source → IsCommandLine (Dns source) (codes "dns" ∷ source ∷ [])

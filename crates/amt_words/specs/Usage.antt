@@ -79,9 +79,13 @@ relay_usage = with_rule (serving_usage (codes "relay")) (option_rule (codes "wor
 abbrev pub gateway_usage : App
 gateway_usage = serving_usage (codes "gateway")
 
+-- dns SOURCE
+abbrev pub dns_usage : App
+dns_usage = with_rule (bare_usage (codes "dns")) (word_rule (codes "SOURCE"))
+
 -- the written definitions, one a command
 abbrev pub usages : List App
-usages = replay_usage ∷ dump_usage ∷ vectors_usage ∷ load_usage ∷ relay_usage ∷ gateway_usage ∷ []
+usages = replay_usage ∷ dump_usage ∷ vectors_usage ∷ load_usage ∷ relay_usage ∷ gateway_usage ∷ dns_usage ∷ []
 
 -- the words after a command's name are among those that its written definition takes
 abbrev pub Takes : App → List Text → Type 0

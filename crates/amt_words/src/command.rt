@@ -1,6 +1,6 @@
 //! The commands, by what they are asked to do. It reads no word.
 
-use crate::file_name::FileName;
+use crate::word::Word;
 
 /// What can be replayed from a script.
 #[derive(Clone, Copy, Debug, PartialEq, Eq)]
@@ -30,14 +30,18 @@ pub enum Command<'a> {
     /// Serve as the relay that the settings of `file` say, for so many turns at most. `workers`
     /// outweighs the settings.
     Relay {
-        file: FileName<'a>,
+        file: Word<'a>,
         turns: u64,
         workers: Option<u32>,
     },
     /// Serve as the gateway that the settings of `file` say, for so many turns at most.
     Gateway {
-        file: FileName<'a>,
+        file: Word<'a>,
         turns: u64,
+    },
+    /// Find the relays of a source, by the query for them and its answer.
+    Dns {
+        source: Word<'a>,
     },
 }
 

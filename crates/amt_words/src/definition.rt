@@ -2,7 +2,7 @@
 
 ghost use Rattle.std.specs.Prelude.{◌≡◌, [], codes, false, true, IfOk};
 ghost use Rattle.clap.specs.{Words.{IsParsedFrom, IsPlainArg, app_of, args_of, found_of, groups_of, rule_of, with_subcommand}, Simple.{new_shape}, Built.{TakesValue}, declared.{builder.command.Command.TheViews.{out-Command as fields_of}, parser.matches.ArgMatches.{ArgMatches as MatchesValue}}};
-ghost use Rattle.amt_words.specs.{Given.{HasNumber, HasNumberIfAny, HasWord}, Usage.{bare_usage, gateway_usage, load_usage, number_rule, option_rule, relay_usage, replay_usage, word_rule}};
+ghost use Rattle.amt_words.specs.{Given.{HasNumber, HasNumberIfAny, HasWord}, Usage.{bare_usage, dns_usage, gateway_usage, load_usage, number_rule, option_rule, relay_usage, replay_usage, word_rule}};
 
 use clap::builder::ValueParser;
 use clap::{Arg, ArgAction};
@@ -79,14 +79,12 @@ pub fn load_definition<'a>(alloc: Global) -> Result<clap::Command<'a>, AllocErro
     definition.arg(count_argument(alloc))
 }
 
-fn file_argument<'a>(alloc: Global) -> Arg<'a>
-    ensures rule { rule_of result ≡ word_rule (codes "FILE") }
+fn word_argument<'a>(alloc: Global, id: &'a str) -> Arg<'a>
+    ensures rule { rule_of result ≡ word_rule id.entry.now }
     ensures plain { IsPlainArg result × (result.global ≡ false) }
     ensures value { TakesValue result }
 {
-    Arg::new(alloc, "FILE")
-        .required(true)
-        .action(ArgAction::Set)
+    Arg::new(alloc, id).required(true).action(ArgAction::Set)
 }
 
 fn turns_argument<'a>(alloc: Global) -> Arg<'a>
@@ -116,7 +114,7 @@ pub fn gateway_definition<'a>(alloc: Global) -> Result<clap::Command<'a>, AllocE
         → IsParsedFrom definition found → HasWord (found_of found) (codes "FILE")
         × HasNumberIfAny (found_of found) (codes "turns") 1 1099511627776) }
 {
-    let definition = bare_definition(alloc, "gateway").arg(file_argument(alloc))?;
+    let definition = bare_definition(alloc, "gateway").arg(word_argument(alloc, "FILE"))?;
     definition.arg(turns_argument(alloc))
 }
 
@@ -128,8 +126,17 @@ pub fn relay_definition<'a>(alloc: Global) -> Result<clap::Command<'a>, AllocErr
         × HasNumberIfAny (found_of found) (codes "turns") 1 1099511627776
         × HasNumberIfAny (found_of found) (codes "workers") 0 64) }
 {
-    let definition = bare_definition(alloc, "relay").arg(file_argument(alloc))?;
+    let definition = bare_definition(alloc, "relay").arg(word_argument(alloc, "FILE"))?;
     definition
         .arg(turns_argument(alloc))?
         .arg(workers_argument(alloc))
+}
+
+/// `dns SOURCE`.
+pub fn dns_definition<'a>(alloc: Global) -> Result<clap::Command<'a>, AllocError>
+    ensures usage { IfOk result (λ definition. app_of definition ≡ dns_usage) }
+    ensures given { IfOk result (λ definition. (found : MatchesValue)
+        → IsParsedFrom definition found → HasWord (found_of found) (codes "SOURCE")) }
+{
+    bare_definition(alloc, "dns").arg(word_argument(alloc, "SOURCE"))
 }

@@ -5,16 +5,13 @@ ghost use Rattle.amt_words.specs.{Line.{GivesRun, IsTurns}, Usage.{Takes, gatewa
 
 use crate::command::WordsFault;
 use crate::definition::gateway_definition;
-use crate::file_name::FileName;
 use crate::parsing::parse;
 use crate::serving::{file, turns};
+use crate::word::Word;
 use std::alloc::Global;
 
 /// The file and the turns that the words after `gateway` give.
-pub fn read_gateway<'a>(
-    alloc: Global,
-    words: &'a [String],
-) -> Result<(FileName<'a>, u64), WordsFault>
+pub fn read_gateway<'a>(alloc: Global, words: &'a [String]) -> Result<(Word<'a>, u64), WordsFault>
     ensures taken { IfOk result (λ given. Takes gateway_usage (map string_bytes words.entry.now)) }
     ensures given { IfOk result (λ given. GivesRun gateway_usage given.0 given.1 (map string_bytes words.entry.now)) }
     ensures range { IfOk result (λ given. IsTurns given.1) }

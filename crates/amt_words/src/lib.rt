@@ -8,15 +8,16 @@
 
 mod command;
 mod definition;
-mod file_name;
+mod dns;
 mod gateway;
 mod load;
 mod parsing;
 mod relay;
 mod replay;
 mod serving;
+mod word;
 mod words;
 
 pub use command::{Command, Replayable, WordsFault};
-pub use file_name::FileName;
+pub use word::Word;
 pub use words::read_words;

@@ -6,9 +6,9 @@ ghost use Rattle.amt_words.specs.{Given.{HasNumberIfAny}, Line.{AreWorkers, Give
 
 use crate::command::WordsFault;
 use crate::definition::relay_definition;
-use crate::file_name::FileName;
 use crate::parsing::parse;
 use crate::serving::{file, turns};
+use crate::word::Word;
 use clap::ArgMatches;
 use std::alloc::Global;
 
@@ -24,7 +24,7 @@ fn workers(found: &ArgMatches) -> Option<u32>
 pub fn read_relay<'a>(
     alloc: Global,
     words: &'a [String],
-) -> Result<(FileName<'a>, u64, Option<u32>), WordsFault>
+) -> Result<(Word<'a>, u64, Option<u32>), WordsFault>
     ensures taken { IfOk result (λ given. Takes relay_usage (map string_bytes words.entry.now)) }
     ensures given { IfOk result (λ given. GivesRelay given.0 given.1 given.2 (map string_bytes words.entry.now)) }
     ensures range { IfOk result (λ given. IsTurns given.1 × AreWorkers given.2) }

@@ -5,6 +5,7 @@ ghost use Rattle.clap.specs.Words.{Text};
 ghost use Rattle.amt_words.specs.{declared.command.Command.{Command as CommandValue}, Line.{IsAccepted, IsCommandLine, IsWithinLimits, TakesPlainLines}};
 
 use crate::command::{Command, WordsFault};
+use crate::dns::read_dns;
 use crate::gateway::read_gateway;
 use crate::load::read_load;
 use crate::parsing::read_bare;
@@ -14,8 +15,8 @@ use std::alloc::Global;
 
 /// The command that the arguments name, those after the program's name.
 ///
-/// No line asks for help: `--help`, `-h` and `help` are usage faults. Only as the FILE of `relay` or `gateway`
-/// they may stand, the first two after `--`.
+/// No line asks for help: `--help`, `-h` and `help` are usage faults. Only as the FILE of `relay` or `gateway`, or
+/// the SOURCE of `dns` they may stand, the first two after `--`.
 #[tactic(auto, using(crate::proofs::PlainLines::plain_lines))]
 pub fn read_words<'a>(alloc: Global, words: &'a [String]) -> Result<Command<'a>, WordsFault>
     ensures found { IfOk result (λ command. IsCommandLine command (map string_bytes words.entry.now)) }
@@ -60,6 +61,10 @@ pub fn read_words<'a>(alloc: Global, words: &'a [String]) -> Result<Command<'a>,
         },
         "gateway" => match read_gateway(alloc, rest) {
             Ok((file, turns)) => Ok(Command::Gateway { file, turns }),
+            Err(fault) => Err(fault),
+        },
+        "dns" => match read_dns(alloc, rest) {
+            Ok(source) => Ok(Command::Dns { source }),
             Err(fault) => Err(fault),
         },
         _ => Err(WordsFault::Usage),

@@ -6,6 +6,8 @@
 #![tactic(auto)]
 
 #[cfg(test)]
+mod dns;
+#[cfg(test)]
 mod embedding;
 #[cfg(test)]
 mod gateway;

@@ -6,10 +6,10 @@ use Rattle.amt_words.proofs.definition.gateway_definition.Goals as goal
 pub returns-clause-given : goal.returns-clause-given
 returns-clause-given c =
     let bare = c.bare_definition.ensures in
-    let file = c.file_argument.ensures in
+    let file = c.word_argument.ensures in
     let turns = c.turns_argument.ensures in
     IfOk-weaker c.arg-2.result _ _ (λ r added m parsed.
-    gateway_given c.bare_definition.result c.in_ok-definition.definition r c.file_argument.result c.turns_argument.result
+    gateway_given c.bare_definition.result c.in_ok-definition.definition r c.word_argument.result c.turns_argument.result
     c.in_ok-definition.ensures added bare.empty.0 bare.empty.1 bare.local.0 bare.local.1
     file.plain turns.plain file.value (ap (λ (a : Rule). a.id) file.rule) (ap (λ (a : Rule). a.id) turns.rule) (ap (λ (a : Rule). a.parser) turns.rule)
     m parsed)

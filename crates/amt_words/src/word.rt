@@ -1,28 +1,28 @@
-//! The name of a file, as an argument gives it.
+//! A word of the command line, as it was given.
 
 ghost use Rattle.std.specs.Prelude.{◌≡◌};
 
 use std::marker::Model;
 
-/// The name of a file. Contracts see its bytes.
+/// A word of the command line, as it was given: the name of a file, or a source. Contracts see its bytes.
 #[derive(Debug, Drop)]
-pub struct FileName<'a> {
+pub struct Word<'a> {
     word: &'a str,
 }
 
-impl<'a> Model for FileName<'a> {
+impl<'a> Model for Word<'a> {
     ghost use Rattle.std.specs.Prelude.{ℕ, List};
 
     ghost Value = { List ℕ };
 
-    ghost view = { λ name. name.word.now };
+    ghost view = { λ given. given.word.now };
 }
 
-impl<'a> FileName<'a> {
-    pub(crate) fn of(word: &'a str) -> FileName<'a>
+impl<'a> Word<'a> {
+    pub(crate) fn of(word: &'a str) -> Word<'a>
         ensures { result ≡ word.entry.now }
     {
-        FileName { word }
+        Word { word }
     }
 
     pub fn as_str(&self) -> &'a str
@@ -32,19 +32,19 @@ impl<'a> FileName<'a> {
     }
 }
 
-impl<'a> PartialEq for FileName<'a> {
+impl<'a> PartialEq for Word<'a> {
     ghost use Rattle.std.{specs.{Str.{bytes_eq}, Cmp.{partial_equiv_from_equiv}}, proofs.lemmas.Cmp.{nat_list_eq_equiv}};
 
     ghost eq = { bytes_eq };
 
     ghost laws = { partial_equiv_from_equiv nat_list_eq_equiv };
 
-    fn eq(&self, other: &FileName<'a>) -> bool {
+    fn eq(&self, other: &Word<'a>) -> bool {
         self.word == other.word
     }
 }
 
-impl<'a> Eq for FileName<'a> {
+impl<'a> Eq for Word<'a> {
     ghost use Rattle.std.proofs.lemmas.Cmp.{nat_list_eq_equiv};
 
     ghost laws = { nat_list_eq_equiv };
