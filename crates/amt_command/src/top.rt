@@ -7,6 +7,7 @@ ghost use Rattle.script_lines.specs.Writing.{WritesPrefix};
 ghost use Rattle.serving_commands.specs.Lives.{tells};
 ghost use Rattle.amt_command.specs.{Command.{work_of}, Ending.{EndsFor, LeavesDevices, status_of, line_of}, Exit.{status_in}, Running.{Gateways, IsGatewayLine, IsRelayLine, Relays, ServesFor}, Serving.{ServesAndTells}, Status.{Answers, Reports, ReportsMemory}, Task.{HasOneFaultFor, HasOneValue}};
 
+use crate::dns::DnsTask;
 use crate::ending::Ending;
 use crate::exit::Exit;
 use crate::gateway::serve_gateway_file;
@@ -63,6 +64,7 @@ fn run_command<S: Source, F: Files, O: Sink, V: Live>(
         Command::Replay(kind) => replay(alloc, kind, input, out),
         Command::Dump => run_task(&Dump {}, alloc, input, out),
         Command::Vectors => run_task(&Vectors {}, alloc, input, out),
+        Command::Dns { source } => run_task(&DnsTask { source }, alloc, input, out),
         Command::Load { seed, count } => write_load(alloc, seed, count, input, out),
         Command::Relay {
             file,
