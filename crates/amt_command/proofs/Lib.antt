@@ -2,5 +2,6 @@ pub mod Answering
 pub mod Commands
 pub mod Endings
 pub mod Lines
+pub mod Lookups
 pub mod Shown
 pub mod Undisturbed

@@ -1,16 +1,16 @@
 -- The commands, by what each does, and the statuses of `amt`.
 use Rattle.std.specs.{Prelude.{ℕ, ◌==◌, List, [], ◌∷◌, ◌++◌, None, IsTrue, codes, if◌then◌else◌}, List.{list_any}}
+use Rattle.amt_dns.specs.Texts.{dns_text}
 use Rattle.amt_dump.specs.{Dump.{IsDump}, Lines.{dump_kind}}
 use Rattle.amt_ports.specs.Causes.{Rose}
 use Rattle.amt_script.specs.{Script.{relay_kind}, Texts.{relay_script_text}, declared.script.RelayScript.{RelayScript}}
 use Rattle.amt_vectors.specs.{Kind.{vector_kind}, Report.{IsVectorsReport}, Texts.{difference_of, suite_text}, declared.report.SuiteReport.{SuiteReport}}
-use Rattle.amt_words.specs.declared.command.{Command.{Command, TheVariants.{Dump, Load, Replay, Vectors, Gateway as GatewayServing, Relay as RelayServing}}, Replayable.TheVariants.{Gateway, Pair, Relay, Upstream}}
+use Rattle.amt_words.specs.declared.command.{Command.{Command, TheVariants.{Dns, Dump, Load, Replay, Vectors, Gateway as GatewayServing, Relay as RelayServing}}, Replayable.TheVariants.{Gateway, Pair, Relay, Upstream}}
 use Rattle.gateway_script.specs.{Script.{gateway_kind}, Texts.{gateway_script_text}, declared.script.GatewayScript.{GatewayScript}}
 use Rattle.pair_script.specs.{Script.{pair_kind}, Texts.{pair_script_text}, declared.script.PairScript.{PairScript}}
 use Rattle.relay_load.specs.{Counts.{summary_of}, Script.{load_script_of}, Texts.{load_text}}
-use Rattle.script_lines.specs.Script.{IsFaultAt}
 use Rattle.upstream_script.specs.Texts.{upstream_script_text}
-use Rattle.amt_command.specs.Task.{Task, Work, making, reading, replay_task, serving}
+use Rattle.amt_command.specs.{declared.dns.Lookup.{Lookup}, Dns.{IsLookup, TellsLookup}, Task.{TellsLine, Task, Work, making, reading, replay_task, serving}}
 
 -- relay, gateway and pair scripts, each with the text of its run, and relay scripts with what the relay's own network
 -- has to hear besides
@@ -28,11 +28,20 @@ upstream_task = replay_task relay_kind upstream_script_text
 
 -- lines of hexadecimal digits, with the text of their messages
 abbrev pub dump_task : Task (List ℕ)
-dump_task = record { Reads = IsDump; HasFault = IsFaultAt dump_kind; text = λ text. text; difference = λ text. None }
+dump_task = record { Reads = IsDump; HasFault = TellsLine dump_kind; text = λ text. text; difference = λ text. None }
 
 -- vector rows, with the number of those that passed, or the first that differs
 abbrev pub vectors_task : Task SuiteReport
-vectors_task = record { Reads = IsVectorsReport; HasFault = IsFaultAt vector_kind; text = suite_text; difference = difference_of }
+vectors_task = record { Reads = IsVectorsReport; HasFault = TellsLine vector_kind; text = suite_text; difference = difference_of }
+
+-- an answer about the source that the word names, with the query and what the answer tells
+abbrev pub dns_task : List ℕ → Task Lookup
+dns_task word = record {
+  Reads = IsLookup word;
+  HasFault = TellsLookup word;
+  text = λ lookup. dns_text lookup.source lookup.answer;
+  difference = λ lookup. None;
+}
 
 -- what a command does
 abbrev pub work_of : Command → Work
@@ -42,6 +51,7 @@ work_of (Replay Pair) = reading PairScript pair_task
 work_of (Replay Upstream) = reading RelayScript upstream_task
 work_of Dump = reading (List ℕ) dump_task
 work_of Vectors = reading SuiteReport vectors_task
+work_of (Dns source) = reading Lookup (dns_task source)
 work_of (Load seed count) = making (load_text (summary_of (load_script_of seed count)))
 work_of (RelayServing file turns workers) = serving
 work_of (GatewayServing file turns) = serving

@@ -1,4 +1,5 @@
 pub mod Command
+pub mod Dns
 pub mod Ending
 pub mod Exit
 pub mod Running

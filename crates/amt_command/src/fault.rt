@@ -1,46 +1,61 @@
-//! The endings of an input that can't be read, or isn't as it should be. It knows no kind of input.
+//! Why an input can't be read, or isn't as it should be, as the line on standard error says it. It knows no kind of
+//! input.
 
 ghost use Rattle.std.specs.Prelude.{◌≡◌, ◌⊎◌, IfOk};
-ghost use Rattle.amt_command.specs.Task.{difference_line, fault_line};
+ghost use Rattle.amt_command.specs.Task.{TellsError, line_text, told_line};
 
 use crate::ending::Ending;
+use crate::task::TaskFault;
 use amt_values::Bytes;
-use script_lines::Reason;
+use script_lines::{Reason, ScriptError};
 use std::alloc::{AllocError, Global};
 
-fn print_fault(alloc: Global, line: u32, reason: Reason) -> Result<Bytes, AllocError>
-    ensures { IfOk result (λ text. text ≡ fault_line line reason) }
+fn print_line(alloc: Global, line: u32, reason: Reason) -> Result<Bytes, AllocError>
+    ensures { IfOk result (λ text. text ≡ line_text line reason) }
 {
     let word = reason.word();
-    let text = format!(in alloc; "amt: line {line}: {word}\n")?;
+    let text = format!(in alloc; "line {line}: {word}")?;
     Bytes::copied(alloc, text.as_bytes())
 }
 
-/// The ending of a run over an input with this fault.
-pub fn ending_of_fault(alloc: Global, line: u32, reason: Reason) -> Ending
-    ensures { (result ≡ Ending.Fault (fault_line line reason)) ⊎ (result ≡ Ending.Memory) }
+/// The fault of an input with this error: its first bad line, and the first reason in it.
+pub fn line_fault(alloc: Global, error: ScriptError) -> TaskFault
+    ensures { TellsError error result }
 {
-    match print_fault(alloc, line, reason) {
-        Ok(text) => Ending::Fault(text),
+    let ScriptError::Fault { line, reason } = error else {
+        return TaskFault::Memory;
+    };
+    match print_line(alloc, line, reason) {
+        Ok(text) => TaskFault::Fault(text),
+        Err(_) => TaskFault::Memory,
+    }
+}
+
+fn print_told(alloc: Global, text: &[u8]) -> Result<Bytes, AllocError>
+    ensures { IfOk result (λ line. line ≡ told_line text.now) }
+{
+    let mut line = Bytes::copied(alloc, b"amt: ")?;
+    line.append(text)?;
+    line.append(b"\n")?;
+    Ok(line)
+}
+
+/// The ending of a run over an input with this fault.
+pub fn ending_of_fault(alloc: Global, text: &[u8]) -> Ending
+    ensures { (result ≡ Ending.Fault (told_line text.now)) ⊎ (result ≡ Ending.Memory) }
+{
+    match print_told(alloc, text) {
+        Ok(line) => Ending::Fault(line),
         Err(_) => Ending::Memory,
     }
 }
 
-fn print_difference(alloc: Global, difference: &[u8]) -> Result<Bytes, AllocError>
-    ensures { IfOk result (λ text. text ≡ difference_line difference.now) }
-{
-    let mut text = Bytes::copied(alloc, b"amt: ")?;
-    text.append(difference)?;
-    text.append(b"\n")?;
-    Ok(text)
-}
-
 /// The ending of a run over an input with this difference.
 pub fn ending_of_difference(alloc: Global, difference: &[u8]) -> Ending
-    ensures { (result ≡ Ending.Difference (difference_line difference.now)) ⊎ (result ≡ Ending.Memory) }
+    ensures { (result ≡ Ending.Difference (told_line difference.now)) ⊎ (result ≡ Ending.Memory) }
 {
-    match print_difference(alloc, difference) {
-        Ok(text) => Ending::Difference(text),
+    match print_told(alloc, difference) {
+        Ok(line) => Ending::Difference(line),
         Err(_) => Ending::Memory,
     }
 }

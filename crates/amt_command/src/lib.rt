@@ -6,6 +6,7 @@
 //! Standard: none of its own; the formats stand in docs/FORMATS.md.
 #![tactic(auto)]
 
+mod dns;
 mod ending;
 mod exit;
 mod fault;

@@ -4,25 +4,29 @@ ghost use Rattle.std.specs.Prelude.{◌≡◌, ◌⊎◌, ℕ, ◌≤◌, List, 
 ghost use Rattle.amt_ports.specs.{Causes.{Rose}, Reading.{TakesAtMost, TakesMore}};
 ghost use Rattle.amt_values.specs.declared.bytes.TheConstants.{INPUT_LIMIT};
 ghost use Rattle.relay_load.specs.{Counts.{summary_of}, Script.{load_script_of}, Texts.{load_text}};
-ghost use Rattle.amt_command.specs.{Task.{IsInput, difference_line, making, reading}, Ending.{EndsFor, LeavesDevices, TellsWhy}};
+ghost use Rattle.amt_command.specs.{Task.{IsInput, making, reading, told_line}, Ending.{EndsFor, LeavesDevices, TellsWhy}};
 
 use crate::ending::Ending;
 use crate::fault::{ending_of_difference, ending_of_fault};
-use crate::task::HasTask;
+use crate::task::{HasTask, TaskFault};
 use crate::writing::write_text;
 use amt_ports::{ReadAllFault, Sink, Source, read_all};
 use relay_load::load;
-use script_lines::{RunFault, ScriptError};
+use script_lines::RunFault;
 use std::alloc::Global;
 
 // Reads the input to its end, and then as what the command reads.
-fn read_value<T: HasTask, S: Source>(alloc: Global, input: &mut S) -> Result<T::Value, Ending>
-    ensures found { IfOk result (λ value. IsInput T.task (S.left input.old) (S.left input.new) value) }
+fn read_value<T: HasTask, S: Source>(
+    task: &T,
+    alloc: Global,
+    input: &mut S,
+) -> Result<T::Value, Ending>
+    ensures found { IfOk result (λ value. IsInput (T.task task.now) (S.left input.old) (S.left input.new) value) }
     ensures writes { IfOk result (λ value. T.CanWrite value) }
 
     ensures no_usage { IsErrOf result Ending.Usage → ⊥ }
     ensures no_write { IsErrOf result Ending.WriteFault → ⊥ }
-    ensures why { IfErr result (TellsWhy T.task (S.left input.old) (S.left input.new)) }
+    ensures why { IfErr result (TellsWhy (T.task task.now) (S.left input.old) (S.left input.new)) }
     ensures read { IsErrOf result Ending.ReadFault
         → Rose (S.faults input.old) (S.faults input.new) }
     ensures calm { ¬ IsErrOf result Ending.ReadFault
@@ -38,21 +42,21 @@ fn read_value<T: HasTask, S: Source>(alloc: Global, input: &mut S) -> Result<T::
         Err(ReadAllFault::TooLong) => return Err(Ending::TooLong),
         Err(ReadAllFault::Memory) => return Err(Ending::Memory),
     };
-    match T::read(alloc, bytes.as_slice()) {
+    match task.read(alloc, bytes.as_slice()) {
         Ok(value) => Ok(value),
-        Err(ScriptError::Fault { line, reason }) => Err(ending_of_fault(alloc, line, reason)),
-        Err(ScriptError::Memory) => Err(Ending::Memory),
+        Err(TaskFault::Fault(text)) => Err(ending_of_fault(alloc, text.as_slice())),
+        Err(TaskFault::Memory) => Err(Ending::Memory),
     }
 }
 
 // The value is as it should be, or its difference ends the run.
-fn check_value<T: HasTask>(alloc: Global, value: &T::Value) -> Result<(), Ending>
-    ensures agrees { OnOk result (T.task.difference value.now ≡ None) }
+fn check_value<T: HasTask>(task: &T, alloc: Global, value: &T::Value) -> Result<(), Ending>
+    ensures agrees { OnOk result ((T.task task.now).difference value.now ≡ None) }
     ensures differs { IfErr result (λ ending. (ending ≡ Ending.Memory)
-        ⊎ ((difference : List ℕ) × (T.task.difference value.now ≡ Some difference)
-        × (ending ≡ Ending.Difference (difference_line difference)))) }
+        ⊎ ((difference : List ℕ) × ((T.task task.now).difference value.now ≡ Some difference)
+        × (ending ≡ Ending.Difference (told_line difference)))) }
 {
-    match T::difference(alloc, value) {
+    match task.difference(alloc, value) {
         Ok(None) => Ok(()),
         Ok(Some(difference)) => Err(ending_of_difference(alloc, difference.as_slice())),
         Err(_) => Err(Ending::Memory),
@@ -61,25 +65,26 @@ fn check_value<T: HasTask>(alloc: Global, value: &T::Value) -> Result<(), Ending
 
 /// Reads the input to its end and as what the command reads; only then something is written to `out`.
 pub fn run_task<T: HasTask, S: Source, O: Sink>(
+    task: &T,
     alloc: Global,
     input: &mut S,
     out: &mut O,
 ) -> Result<(), Ending>
     ensures no_usage { IsErrOf result Ending.Usage → ⊥ }
-    ensures ends { EndsFor (reading T.Value T.task) S.left S.faults O.written O.faults
+    ensures ends { EndsFor (reading T.Value (T.task task.now)) S.left S.faults O.written O.faults
         input.old input.new out.old out.new result }
     ensures devices { LeavesDevices S.left S.faults O.faults input.old input.new out.old out.new
         result }
 {
-    let value = match read_value::<T, S>(alloc, input) {
+    let value = match read_value(task, alloc, input) {
         Ok(value) => value,
         Err(ending) => return Err(ending),
     };
-    match check_value::<T>(alloc, &value) {
+    match check_value(task, alloc, &value) {
         Ok(()) => {}
         Err(difference) => return Err(difference),
     }
-    match T::write(alloc, &value, out) {
+    match task.write(alloc, &value, out) {
         Ok(()) => Ok(()),
         Err(RunFault::Write) => Err(Ending::WriteFault),
         Err(RunFault::Memory) => Err(Ending::Memory),

@@ -2,13 +2,14 @@
 
 ghost use Rattle.amt_command.specs.Command.{gateway_task, pair_task, relay_task, upstream_task};
 
-use crate::task::HasTask;
+use crate::fault::line_fault;
+use crate::task::{HasTask, TaskFault};
 use amt_ports::Sink;
 use amt_script::{RelayScript, read_relay_script, run_relay_script};
 use amt_values::Bytes;
 use gateway_script::{GatewayScript, read_gateway_script, run_gateway_script};
 use pair_script::{PairScript, read_pair_script, run_pair_script};
-use script_lines::{RunFault, ScriptError};
+use script_lines::RunFault;
 use std::alloc::{AllocError, Global};
 use upstream_script::run_upstream_script;
 
@@ -21,19 +22,31 @@ impl HasTask for RelayReplay {
 
     type Value = RelayScript;
 
-    ghost task = { relay_task };
+    ghost task = { λ task. relay_task };
 
     ghost CanWrite = { λ script. IsRunnable script };
 
-    fn read(alloc: Global, bytes: &[u8]) -> Result<RelayScript, ScriptError> {
-        read_relay_script(alloc, bytes)
+    fn read(&self, alloc: Global, bytes: &[u8]) -> Result<RelayScript, TaskFault> {
+        match read_relay_script(alloc, bytes) {
+            Ok(value) => Ok(value),
+            Err(error) => Err(line_fault(alloc, error)),
+        }
     }
 
-    fn difference(_alloc: Global, _script: &RelayScript) -> Result<Option<Bytes>, AllocError> {
+    fn difference(
+        &self,
+        _alloc: Global,
+        _script: &RelayScript,
+    ) -> Result<Option<Bytes>, AllocError> {
         Ok(None)
     }
 
-    fn write<O: Sink>(alloc: Global, script: &RelayScript, out: &mut O) -> Result<(), RunFault> {
+    fn write<O: Sink>(
+        &self,
+        alloc: Global,
+        script: &RelayScript,
+        out: &mut O,
+    ) -> Result<(), RunFault> {
         run_relay_script(alloc, script, out)
     }
 }
@@ -47,19 +60,31 @@ impl HasTask for GatewayReplay {
 
     type Value = GatewayScript;
 
-    ghost task = { gateway_task };
+    ghost task = { λ task. gateway_task };
 
     ghost CanWrite = { λ script. IsRunnable script };
 
-    fn read(alloc: Global, bytes: &[u8]) -> Result<GatewayScript, ScriptError> {
-        read_gateway_script(alloc, bytes)
+    fn read(&self, alloc: Global, bytes: &[u8]) -> Result<GatewayScript, TaskFault> {
+        match read_gateway_script(alloc, bytes) {
+            Ok(value) => Ok(value),
+            Err(error) => Err(line_fault(alloc, error)),
+        }
     }
 
-    fn difference(_alloc: Global, _script: &GatewayScript) -> Result<Option<Bytes>, AllocError> {
+    fn difference(
+        &self,
+        _alloc: Global,
+        _script: &GatewayScript,
+    ) -> Result<Option<Bytes>, AllocError> {
         Ok(None)
     }
 
-    fn write<O: Sink>(alloc: Global, script: &GatewayScript, out: &mut O) -> Result<(), RunFault> {
+    fn write<O: Sink>(
+        &self,
+        alloc: Global,
+        script: &GatewayScript,
+        out: &mut O,
+    ) -> Result<(), RunFault> {
         run_gateway_script(alloc, script, out)
     }
 }
@@ -73,19 +98,31 @@ impl HasTask for PairReplay {
 
     type Value = PairScript;
 
-    ghost task = { pair_task };
+    ghost task = { λ task. pair_task };
 
     ghost CanWrite = { λ script. IsRunnable script };
 
-    fn read(alloc: Global, bytes: &[u8]) -> Result<PairScript, ScriptError> {
-        read_pair_script(alloc, bytes)
+    fn read(&self, alloc: Global, bytes: &[u8]) -> Result<PairScript, TaskFault> {
+        match read_pair_script(alloc, bytes) {
+            Ok(value) => Ok(value),
+            Err(error) => Err(line_fault(alloc, error)),
+        }
     }
 
-    fn difference(_alloc: Global, _script: &PairScript) -> Result<Option<Bytes>, AllocError> {
+    fn difference(
+        &self,
+        _alloc: Global,
+        _script: &PairScript,
+    ) -> Result<Option<Bytes>, AllocError> {
         Ok(None)
     }
 
-    fn write<O: Sink>(alloc: Global, script: &PairScript, out: &mut O) -> Result<(), RunFault> {
+    fn write<O: Sink>(
+        &self,
+        alloc: Global,
+        script: &PairScript,
+        out: &mut O,
+    ) -> Result<(), RunFault> {
         run_pair_script(alloc, script, out)
     }
 }
@@ -99,19 +136,31 @@ impl HasTask for UpstreamReplay {
 
     type Value = RelayScript;
 
-    ghost task = { upstream_task };
+    ghost task = { λ task. upstream_task };
 
     ghost CanWrite = { λ script. IsRunnable script };
 
-    fn read(alloc: Global, bytes: &[u8]) -> Result<RelayScript, ScriptError> {
-        read_relay_script(alloc, bytes)
+    fn read(&self, alloc: Global, bytes: &[u8]) -> Result<RelayScript, TaskFault> {
+        match read_relay_script(alloc, bytes) {
+            Ok(value) => Ok(value),
+            Err(error) => Err(line_fault(alloc, error)),
+        }
     }
 
-    fn difference(_alloc: Global, _script: &RelayScript) -> Result<Option<Bytes>, AllocError> {
+    fn difference(
+        &self,
+        _alloc: Global,
+        _script: &RelayScript,
+    ) -> Result<Option<Bytes>, AllocError> {
         Ok(None)
     }
 
-    fn write<O: Sink>(alloc: Global, script: &RelayScript, out: &mut O) -> Result<(), RunFault> {
+    fn write<O: Sink>(
+        &self,
+        alloc: Global,
+        script: &RelayScript,
+        out: &mut O,
+    ) -> Result<(), RunFault> {
         run_upstream_script(alloc, script, out)
     }
 }

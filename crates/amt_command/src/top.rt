@@ -7,6 +7,7 @@ ghost use Rattle.script_lines.specs.Writing.{WritesPrefix};
 ghost use Rattle.serving_commands.specs.Lives.{tells};
 ghost use Rattle.amt_command.specs.{Command.{work_of}, Ending.{EndsFor, LeavesDevices, status_of, line_of}, Exit.{status_in}, Running.{Gateways, IsGatewayLine, IsRelayLine, Relays, ServesFor}, Serving.{ServesAndTells}, Status.{Answers, Reports, ReportsMemory}, Task.{HasOneFaultFor, HasOneValue}};
 
+use crate::dns::DnsTask;
 use crate::ending::Ending;
 use crate::exit::Exit;
 use crate::gateway::serve_gateway_file;
@@ -33,10 +34,10 @@ fn replay<S: Source, O: Sink>(
         result }
 {
     match kind {
-        Replayable::Relay => run_task::<RelayReplay, S, O>(alloc, input, out),
-        Replayable::Gateway => run_task::<GatewayReplay, S, O>(alloc, input, out),
-        Replayable::Pair => run_task::<PairReplay, S, O>(alloc, input, out),
-        Replayable::Upstream => run_task::<UpstreamReplay, S, O>(alloc, input, out),
+        Replayable::Relay => run_task(&RelayReplay {}, alloc, input, out),
+        Replayable::Gateway => run_task(&GatewayReplay {}, alloc, input, out),
+        Replayable::Pair => run_task(&PairReplay {}, alloc, input, out),
+        Replayable::Upstream => run_task(&UpstreamReplay {}, alloc, input, out),
     }
 }
 
@@ -61,8 +62,9 @@ fn run_command<S: Source, F: Files, O: Sink, V: Live>(
 {
     match command {
         Command::Replay(kind) => replay(alloc, kind, input, out),
-        Command::Dump => run_task::<Dump, S, O>(alloc, input, out),
-        Command::Vectors => run_task::<Vectors, S, O>(alloc, input, out),
+        Command::Dump => run_task(&Dump {}, alloc, input, out),
+        Command::Vectors => run_task(&Vectors {}, alloc, input, out),
+        Command::Dns { source } => run_task(&DnsTask { source }, alloc, input, out),
         Command::Load { seed, count } => write_load(alloc, seed, count, input, out),
         Command::Relay {
             file,

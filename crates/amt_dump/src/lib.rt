@@ -16,5 +16,6 @@ mod query;
 mod query_text;
 mod report_text;
 
+pub use datagrams::{Datagrams, read_datagrams};
 pub use dump::dump_lines;
 pub use script_lines::{Reason, ScriptError};
