@@ -23,8 +23,8 @@ from_same : (format : Format) (bytes : List ℕ) (at end last : ℕ) (one other 
 from_same format bytes at end last one other (AreFrom.none _ _) (AreFrom.none _ _) = (refl, refl)
 from_same format bytes at end last one other (AreFrom.none _ cut) (AreFrom.more _ _ _ whole _) = absurd (omega arith)
 from_same format bytes at end last one other (AreFrom.more _ _ _ whole _) (AreFrom.none _ cut) = absurd (omega arith)
-from_same format bytes at end last one other (AreFrom.more _ _ items _ first) (AreFrom.more _ _ more _ second) =
-    let same = from_same format bytes (record_end format bytes at) end last items more first second in
+from_same format bytes at end last one other (AreFrom.more _ _ items _ first) (AreFrom.more _ _ others _ second) =
+    let same = from_same format bytes (record_end format bytes at) end last items others first second in
     (ap (λ (rest : List Item). item_at format bytes at ∷ rest) same.0, same.1)
 
 all_records : (bytes : List ℕ) (capture : Capture) (is : IsCapture bytes capture) → AreFrom is.format bytes 24 capture.items is.end
