@@ -1,9 +1,8 @@
 -- Octets are one capture at most, and none where their head has a fault: the records are followed from the head on,
 -- and a whole one stands at a place or doesn't.
-use Rattle.std.proofs.Common.{◌≡◌, ℕ, ◌+◌, ◌<◌, ◌≤◌, List, [], ◌∷◌, ◌++◌, All, length, sym, ap, subst, ◌∙◌, Ok, Err, Option, Some, None, Result, refl, arith, rules, append_assoc, append-nil}
+use Rattle.std.proofs.Common.{◌≡◌, ℕ, ◌<◌, ◌≤◌, List, [], ◌∷◌, ◌++◌, length, sym, ap, subst, Option, Some, None, refl, arith, append_assoc, append-nil}
 use Rattle.std.proofs.lemmas.Grind.{common_steps}
-use Rattle.amt_values.specs.Conditions.{first_holding}
-use Rattle.amt_pcap.specs.declared.{capture.{Capture.{Capture}, CaptureFault.{CaptureFault}, Item.{Item}, Skip.{Skip}}, format.Format.{Format}}
+use Rattle.amt_pcap.specs.declared.{capture.{Capture.{Capture}, CaptureFault.{CaptureFault}, Item.{Item}}, format.Format.{Format}}
 use Rattle.amt_pcap.specs.Capture.{AreRecords, IsCapture, IsHead, first_fault, format_of, item_at, magic_of, record_end}
 
 -- the records from a place on, up to where no whole one follows

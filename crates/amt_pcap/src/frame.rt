@@ -1,6 +1,6 @@
 //! Ethernet frames (RFC 894; RFC 2464, section 3; IEEE 802.1Q).
 
-ghost use Rattle.std.specs.Prelude.{◌≡◌, ◌+◌, ◌≤◌, ◌<◌, length, drop, option_map, IfSome, IfNone, if◌then◌else◌};
+ghost use Rattle.std.specs.Prelude.{◌≡◌, ◌+◌, ◌<◌, ◌≤◌, length, drop, option_map, IfSome, IfNone, if◌then◌else◌};
 ghost use Rattle.byteorder.specs.Endian.{big_number};
 ghost use Rattle.amt_pcap.specs.Capture.{is_ip_type, is_tag, payload_of};
 
@@ -9,7 +9,8 @@ use amt_values::u16_at;
 // The type that stands at a place, if it is there.
 fn type_at(frame: &[u8], at: usize) -> Option<u16>
     requires { at ≤ 20 }
-    ensures some { IfSome result (λ kind. (at + 2 ≤ length frame.now) × (kind ≡ big_number 2 (drop at frame.now))) }
+    ensures some { IfSome result (λ kind. (at + 2 ≤ length frame.now)
+        × (kind ≡ big_number 2 (drop at frame.now))) }
     ensures none { IfNone result (length frame.now < at + 2) }
 {
     if frame.len() < at + 2 {

@@ -58,10 +58,16 @@ fn head_at(packet: &[u8]) -> Head
 {
     if packet[0] >> 4 == 6 {
         let (source, group) = (u128_at(packet, 8), u128_at(packet, 24));
-        return Head { source: Ip::V6(source), group: Ip::V6(group) };
+        return Head {
+            source: Ip::V6(source),
+            group: Ip::V6(group),
+        };
     }
     let (source, group) = (u32_at(packet, 12), u32_at(packet, 16));
-    Head { source: Ip::V4(source), group: Ip::V4(group) }
+    Head {
+        source: Ip::V4(source),
+        group: Ip::V4(group),
+    }
 }
 
 // The datagram whose header stands at the place.
@@ -77,8 +83,14 @@ fn datagram_at(alloc: Global, packet: &[u8], place: usize) -> Result<Datagram, A
     let payload = Bytes::copied(alloc, payload)?;
     let head = head_at(packet);
     Ok(Datagram {
-        source: Peer { ip: head.source, port: u16_at(packet, place) },
-        destination: Peer { ip: head.group, port: u16_at(packet, place + 2) },
+        source: Peer {
+            ip: head.source,
+            port: u16_at(packet, place),
+        },
+        destination: Peer {
+            ip: head.group,
+            port: u16_at(packet, place + 2),
+        },
         payload,
     })
 }

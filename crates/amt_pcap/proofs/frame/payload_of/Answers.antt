@@ -1,6 +1,6 @@
 -- Passing over two tags first finds the same place.
-use Rattle.std.proofs.{Common.{◌≡◌, ℕ, zero, suc, ◌+◌, List, ap, sym, ◌∙◌, arith, rules, if◌then◌else◌, Some, None}, lemmas.Grind.{common_steps}}
-use Rattle.amt_pcap.specs.Capture.{carried_in, is_ip_type, is_tag, packet_place}
+use Rattle.std.proofs.{Common.{◌≡◌, ℕ, zero, suc, ◌+◌, List, ◌∙◌, arith, if◌then◌else◌, Some, None}, lemmas.Grind.{common_steps}}
+use Rattle.amt_pcap.specs.Capture.{is_ip_type, is_tag, packet_place}
 use Rattle.amt_pcap.proofs.frame.payload_of.Goals as goal
 
 behind : (tags : ℕ) (frame : List ℕ) (at place : ℕ) → place ≡ (if is_tag frame at then at + 4 else at)

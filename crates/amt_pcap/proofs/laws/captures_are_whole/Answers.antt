@@ -1,8 +1,8 @@
 -- Records up to a place are the octets behind the head up to there.
-use Rattle.std.proofs.{Common.{◌≡◌, ℕ, ◌+◌, ◌≤◌, List, [], ◌∷◌, ◌++◌, All, length, take, drop, refl, sym, ap, ◌∙◌, Some, append_assoc, append-nil, length-append, length-drop, arith}, Math.Seq.{take-add}, lemmas.List.{drop-drop, drop-take, length-take-le, take-append-drop, Elements.{All-nil, All-push}, Folds.{concat-append}}}
+use Rattle.std.proofs.{Common.{◌≡◌, ℕ, ◌+◌, ◌≤◌, List, [], ◌∷◌, ◌++◌, All, length, take, drop, refl, sym, ap, ◌∙◌, append_assoc, append-nil, length-append, length-drop, arith}, Math.Seq.{take-add}, lemmas.List.{drop-drop, drop-take, length-take-le, take-append-drop, Elements.{All-nil, All-push}, Folds.{concat-append}}}
 use Rattle.std.specs.List.{concat}
 use Rattle.byteorder.specs.Numbers.{big_from-take, little_from-take}
-use Rattle.amt_pcap.specs.{declared.{capture.{Capture.{Capture}, Item.{Item}}, format.{FieldOrder.{FieldOrder, TheVariants.{Big, Little}}, Format.{Format}}}, Capture.{AreRecords, HasParts, IsCapture, IsCounted, format_of, item_at, magic_of, number_at, order_in, record_end}}
+use Rattle.amt_pcap.specs.{declared.{capture.{Capture.{Capture}, Item.{Item}}, format.{FieldOrder.{FieldOrder, TheVariants.{Big, Little}}, Format.{Format}}}, Capture.{AreRecords, HasParts, IsCapture, IsCounted, format_of, magic_of, number_at, order_in}}
 use Rattle.amt_pcap.proofs.laws.captures_are_whole.Goals as goal
 
 -- a record's own octets have its count

@@ -1,5 +1,5 @@
 -- What was read is the only capture, and its packets are as short as IP's are.
-use Rattle.std.proofs.{Common.{◌≡◌, ℕ, ◌+◌, ◌==◌, Bool, true, false, List, All, length, ap, Option, Some, None, Result, Ok, Err, if◌then◌else◌, is_none, nat_lt, arith}, lemmas.{Grind.{common_steps}, List.{length-take-le, Elements.{All-nil, All-push}}}}
+use Rattle.std.proofs.{Common.{ℕ, ◌+◌, ◌==◌, Bool, true, false, List, All, length, ap, Option, Some, None, Result, Ok, Err, if◌then◌else◌, is_none, nat_lt, arith}, lemmas.{Grind.{common_steps}, List.{length-take-le, Elements.{All-nil, All-push}}}}
 use Rattle.amt_messages.specs.StatedLength.{inner_length_of}
 use Rattle.inner_datagrams.specs.Head.{first_head_fault}
 use Rattle.amt_pcap.specs.{declared.{capture.{Item.{Item}, Skip.{Skip, TheVariants.{Cut, Ip}}}, format.Format.{Format}}, Capture.{AreRecords, captured_at, item_at, link_type, number_at, packet_at_head, packet_in_frame, packet_of, payload_of, sized_packet}, Texts.{IsShortPacket}}
