@@ -1,5 +1,6 @@
 -- What a capture holds: a head, and captured packets (the classic file format of libpcap, of version 2.4).
-use Rattle.std.specs.Prelude.{◌≡◌, ℕ, zero, suc, ◌+◌, ◌*◌, ◌/◌, ◌%◌, ◌^◌, ◌<◌, ◌≤◌, ◌==◌, ◌&&◌, ◌||◌, not, nat_lt, Bool, true, false, List, [], ◌∷◌, ◌++◌, length, take, drop, is_none, Option, Some, None, Result, Ok, Err, if◌then◌else◌}
+use Rattle.std.specs.Prelude.{◌≡◌, ℕ, zero, suc, ◌+◌, ◌*◌, ◌/◌, ◌%◌, ◌^◌, ◌<◌, ◌≤◌, ◌==◌, ◌&&◌, ◌||◌, not, nat_lt, Bool, true, List, [], ◌∷◌, ◌++◌, All, length, take, drop, is_none, Option, Some, None, Result, Ok, Err, if◌then◌else◌}
+use Rattle.std.specs.List.{concat}
 use Rattle.byteorder.specs.Endian.{big_number, little_number}
 use Rattle.amt_values.specs.Conditions.{Conditions, first_holding}
 use Rattle.amt_messages.specs.StatedLength.{inner_length_of}
@@ -135,3 +136,18 @@ pub record IsCapture (bytes : List ℕ) (capture : Capture) : Type 0 where
   pub records : AreRecords format bytes capture.items end
   pub last : length bytes < record_end format bytes end
   pub whole : length bytes ≡ end + capture.tail
+
+-- the octets of a record are 16, and as many more as it counts
+abbrev pub IsCounted : FieldOrder → List ℕ → Type 0
+IsCounted order octets = length octets ≡ 16 + number_at order 4 octets 8
+
+-- the octets are those of a head, of a record for each item, and of the tail, one behind another
+pub record HasParts (bytes : List ℕ) (capture : Capture) : Type 0 where
+  pub head : List ℕ
+  pub records : List (List ℕ)
+  pub tail : List ℕ
+  pub parts : bytes ≡ head ++ concat records ++ tail
+  pub head_length : length head ≡ 24
+  pub record_lengths : All (IsCounted (order_in (format_of (magic_of bytes)))) records
+  pub one_each : length records ≡ length capture.items
+  pub tail_length : length tail ≡ capture.tail

@@ -1,7 +1,7 @@
 -- UDP in IP packets (RFC 768; RFC 791, section 3.1; RFC 8200, section 3). No checksum is looked at.
-use Rattle.std.specs.Prelude.{◌≡◌, ℕ, ◌+◌, ◌-◌, ◌==◌, ◌&&◌, not, nat_lt, Bool, List, length, take, drop, Option, Some, None, if◌then◌else◌}
+use Rattle.std.specs.Prelude.{ℕ, ◌+◌, ◌-◌, ◌==◌, ◌&&◌, not, nat_lt, Bool, List, length, take, drop, Option, Some, None, if◌then◌else◌}
 use Rattle.byteorder.specs.Endian.{big_number}
-use Rattle.amt_values.specs.{declared.{address.Ip.{Ip}, peer.Peer.{Peer}}, IpHeader.{ip_version}}
+use Rattle.amt_values.specs.{IpHeader.{ip_version}}
 use Rattle.inner_datagrams.specs.{Head.{head_at}, Header.{fragment_bits, header_octets, protocol_number}, Header6.{next_header}}
 use Rattle.amt_pcap.specs.declared.udp.Datagram.{Datagram}
 

@@ -86,7 +86,10 @@ pub fn read_head(bytes: &[u8]) -> Result<Format, CaptureFault>
     let Some(format) = format_of(magic) else {
         return Err(CaptureFault::Magic(magic));
     };
-    let (major, minor) = (short_at(format.order, bytes, 4), short_at(format.order, bytes, 6));
+    let (major, minor) = (
+        short_at(format.order, bytes, 4),
+        short_at(format.order, bytes, 6),
+    );
     if major != 2 || minor != 4 {
         return Err(CaptureFault::Version(major, minor));
     }

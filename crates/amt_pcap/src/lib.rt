@@ -9,6 +9,7 @@
 mod capture;
 mod format;
 mod frame;
+mod laws;
 mod lines;
 mod packet;
 mod reading;
@@ -16,6 +17,7 @@ mod script;
 mod udp;
 
 pub use capture::{Capture, CaptureFault, CapturedItems, Item, Skip};
+pub use laws::{captures_are_whole, captures_have_one_meaning};
 pub use lines::capture_lines;
 pub use reading::read_capture;
 pub use script::capture_script;
