@@ -1,0 +1,4 @@
+mod Addresses
+mod DumpLines
+mod Pieces
+mod RelayLines
