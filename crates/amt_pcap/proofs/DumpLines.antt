@@ -1,11 +1,11 @@
 -- The lines of a capture's datagrams say them.
-use Rattle.std.{proofs.{Common.{◌≡◌, ℕ, ◌/◌, ◌<◌, ◌≤◌, ◌==◌, Bool, true, false, List, [], ◌∷◌, ◌++◌, length, slice_index, All, flat_map, Option, None, Some, refl, sym, ap, subst, ◌∙◌, ne_eqb, length-drop, length-take, arith, rules}, lemmas.{Bool.{cond_both}, List.{Concat.{flat_map-cons}, Elements.{All-from_recursion, All-get_or, recursion_from_All}}}}, specs.{List.{AllByRecursion}, Option.{IfSome}}}
+use Rattle.std.{proofs.{Common.{◌≡◌, ℕ, ◌+◌, ◌/◌, ◌<◌, ◌≤◌, ◌==◌, Bool, true, false, List, [], ◌∷◌, ◌++◌, length, get_or, take, slice_index, All, flat_map, Option, None, Some, refl, sym, ap, subst, ◌∙◌, ne_eqb, length-drop, length-take, arith, rules}, lemmas.{Bool.{cond_both}, List.{Concat.{flat_map-cons}, Elements.{All-from_recursion, All-get_or, recursion_from_All}}}}, specs.{List.{AllByRecursion}, Option.{IfSome}}}
 use Rattle.hex.specs.Hex.{encode_with, lower_digits}
 use Rattle.amt_values.specs.Octets.{AreOctets}
 use Rattle.script_lines.{specs.{Lines.{says_nothing}, Script.{Spells}, Texts.{hex_text}}, proofs.Words.{fields-word-last, hex_length, hex_word, plain_glyphs}}
 use Rattle.amt_dump.specs.Lines.{dump_kind}
-use Rattle.amt_pcap.specs.{declared.capture.Capture.{Capture}, Texts.{HasDumpLine, capture_lines_text, payload_line, tunnelled}, Udp.{datagram_if, has_udp}}
-use Rattle.amt_pcap.proofs.Pieces.{GoesOn, end_goes_on, line_goes_on, piece_of_line}
+use Rattle.amt_pcap.specs.{declared.capture.{Capture.{Capture}, Item.{Item}}, Texts.{HasDumpLine, capture_lines_text, payload_line, tunnelled, tunnelled_in}, Udp.{datagram_if, has_udp}}
+use Rattle.amt_pcap.proofs.Pieces.{GoesOn, end_goes_on, flat_map-next, line_goes_on, piece_of_line}
 
 -- a datagram is no longer than its packet
 pub payload_short : (packet : List ℕ) (place : Option ℕ) → length packet ≤ 65535 → IfSome (datagram_if packet place) (λ datagram. length datagram.payload ≤ 65535)
@@ -43,3 +43,10 @@ unfolding capture_lines_text
 lines_spelled capture each =
     let all = payloads_go_on (tunnelled capture) [] (recursion_from_All HasDumpLine (tunnelled capture) each) in
     record { said = tunnelled capture; all_lines = record { short = all.short; says = all.says }; made = refl }
+
+-- the datagrams so far, and that of the next item
+pub tunnelled-next : (all : List Item) (i : ℕ) (item : Item) → i < length all → item ≡ get_or all i item
+    → flat_map (λ one. tunnelled_in one.packet) (take (i + 1) all) ≡ flat_map (λ one. tunnelled_in one.packet) (take i all) ++ tunnelled_in item.packet
+tunnelled-next all i item inside is =
+    let found : Item → List (List ℕ) = λ one. tunnelled_in one.packet in
+    flat_map-next found all i item inside ∙ ap (λ (one : Item). flat_map found (take i all) ++ found one) (sym is)

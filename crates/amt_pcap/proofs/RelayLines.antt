@@ -1,16 +1,16 @@
 -- The script of a capture says its events.
-use Rattle.std.{proofs.{Common.{◌≡◌, ℕ, ◌+◌, ◌^◌, ◌<◌, ◌≤◌, ◌==◌, Bool, true, false, List, [], ◌∷◌, ◌++◌, length, map, take, get_or, All, flat_map, codes, decimal, replicate, Option, None, Some, Result, Ok, Err, refl, sym, ap, subst, ◌∙◌, append_assoc, append-nil, length-append, arith, rules}, lemmas.{Bool.{cond_both}, Fmt.{length-decimal-le}, List.{length-take-le, take_more, Concat.{flat_map-cons}, Elements.{recursion_from_All}}}}, specs.{List.{AllByRecursion}, Option.{IfSome}}}
-use Rattle.amt_values.specs.{declared.address.Ip.{Ip}, Text.{IsIpText, ip_text}}
-use Rattle.endpoint_membership.specs.declared.limits.Limits.{Limits as LimitsValue}
+use Rattle.std.{proofs.{Common.{◌≡◌, ℕ, ◌+◌, ◌^◌, ◌<◌, ◌≤◌, ◌==◌, Bool, true, false, List, [], ◌∷◌, ◌++◌, length, map, take, get_or, All, flat_map, codes, decimal, replicate, Option, None, Some, Result, Ok, Err, refl, sym, ap, subst, ◌∙◌, append_assoc, append-nil, length-append, arith, rules}, lemmas.{Bool.{cond_both}, Fmt.{length-decimal-le}, List.{length-take-le, take_all, take_more, Concat.{flat_map-cons}, Elements.{recursion_from_All}}}}, specs.{List.{AllByRecursion}, Option.{IfSome}}}
+use Rattle.amt_values.specs.{declared.address.Ip.{Ip}, Group.{is_forwardable}, Text.{IsIpText, ip_text}}
+use Rattle.inner_datagrams.specs.{Head.{head_of}, declared.head.{Head.{Head}, HeadFault.{HeadFault}}}
 use Rattle.relay_machine.{specs.{declared.event.Event.{Event}, EventSize.{IsPayload}, Settings.{default_settings}}, proofs.Numbers.{AreLawful-default}}
 use Rattle.relay_machine.specs.declared.event.Event.TheVariants as events
 use Rattle.script_lines.{specs.Lines.{fields, says_nothing}, proofs.{Glyphs.{AreGlyphs, glyphs_of_digits}, Words.{fields-word, fields-two, glyphs_of_literal, plain_glyphs, plain_two}}}
-use Rattle.amt_script.specs.{declared.{line.RelayStatement.{RelayStatement}, script.RelayItem.{RelayItem}, setting.Setting.{Setting}}, Printed.{IsLineOf}, Says.{SaysEvent}, Script.{IsRelayScript, MakesRelayScript, MayCome, items_in, relay_kind, settings_in}, Settling.{Settles, limits_given}, Texts.{event_line, event_text}}
+use Rattle.amt_script.specs.{declared.{line.RelayStatement.{RelayStatement}, script.RelayItem.{RelayItem}, setting.Setting.{Setting}}, Printed.{HasLine, IsLineOf}, Says.{SaysEvent}, Script.{IsRelayScript, MakesRelayScript, MayCome, items_in, relay_kind, settings_in}, Settling.{Settles, limits_given}, Texts.{event_line, event_text}}
 use Rattle.amt_script.specs.declared.line.RelayStatement.TheVariants as statements
 use Rattle.amt_script.specs.declared.script.RelayItem.TheVariants as items
 use Rattle.amt_script.specs.declared.setting.Setting.TheVariants as settings
-use Rattle.amt_pcap.specs.{declared.capture.{Capture.{Capture}, Item.{Item}, Skip.{Skip, TheVariants.{Cut, Frame, Ip as NoIp}}}, Texts.{AreReadBack, IsReadBack, capture_script_text, captured_script, comment, event_in, events_if, events_of_item, item_lines, lines_of_items, reason_of, relay_line, tail_line}}
-use Rattle.amt_pcap.proofs.{Addresses.{ip_length, ip_word}, Pieces.{GoesOn, comment_goes_on, end_goes_on, line_goes_on, piece_of_line}}
+use Rattle.amt_pcap.specs.{declared.{capture.{Capture.{Capture}, Item.{Item}, Skip.{Skip, TheVariants.{Cut, Frame, Ip as NoIp}}}, udp.Datagram.{Datagram}}, Texts.{AreReadBack, IsReadBack, IsShortPacket, capture_script_text, captured_script, comment, event_in, event_of, event_to, events_if, events_of_item, is_to, item_lines, lines_of_items, reason_of, relay_line, tail_line}, Udp.{datagram_of, udp_place}}
+use Rattle.amt_pcap.proofs.{Addresses.{ip_length, ip_word}, DumpLines.{payload_short}, Pieces.{GoesOn, comment_goes_on, end_goes_on, line_goes_on, piece_of_line}}
 
 -- after any statements the text says these items
 abbrev SaysItems : List RelayItem → List ℕ → Type 0
@@ -23,21 +23,41 @@ says_something (events.Packet bytes) line says = ap says_nothing says.parts
 says_something (events.Rotate secret) line says = ap says_nothing says.parts
 says_something (events.Limits limits) line says = ap says_nothing says.parts
 
-payload_may : (event : Event) → IsPayload event → (given : LimitsValue) → MayCome given (items.Event event)
-payload_may (events.Moment ms) is given = absurd is
-payload_may (events.Datagram bytes from) is given = tt
-payload_may (events.Packet bytes) is given = tt
-payload_may (events.Rotate secret) is given = absurd is
-payload_may (events.Limits limits) is given = absurd is
+payload_may : (event : Event) → IsPayload event → (past : List RelayStatement) → MayCome (limits_given (settings_in past)) (items.Event event)
+payload_may (events.Moment ms) is past = absurd is
+payload_may (events.Datagram bytes from) is past = tt
+payload_may (events.Packet bytes) is past = tt
+payload_may (events.Rotate secret) is past = absurd is
+payload_may (events.Limits limits) is past = absurd is
 
-event_says : (event : Event) (more : List RelayItem) (rest : List ℕ) → ((given : LimitsValue) → MayCome given (items.Event event))
+-- what a captured packet is
+abbrev pub IsCaptured : Event → Type 0
+IsCaptured event = IsPayload event × HasLine event
+
+packet_captured : (packet : List ℕ) (head : Result Head HeadFault) → length packet ≤ 65535 → IfSome (event_to packet head) IsCaptured
+packet_captured packet (Err fault) short = tt
+packet_captured packet (Ok head) short =
+    cond_both (is_forwardable head.group) _ None (λ found. IfSome found IsCaptured) (λ _. (tt, short)) (λ _. tt)
+
+datagram_captured : (relay : Ip) (packet : List ℕ) (datagram : Option Datagram) → length packet ≤ 65535
+    → IfSome datagram (λ one. length one.payload ≤ 65535) → IfSome (event_of relay packet datagram) IsCaptured
+datagram_captured relay packet None short few = packet_captured packet (head_of packet) short
+datagram_captured relay packet (Some datagram) short few =
+    cond_both (is_to relay datagram) _ _ (λ found. IfSome found IsCaptured) (λ _. (tt, few)) (λ _. packet_captured packet (head_of packet) short)
+
+pub event_captured : (relay : Ip) (packet : Result (List ℕ) Skip) → IsShortPacket packet → IfSome (event_in relay packet) IsCaptured
+event_captured relay (Err skip) short = tt
+event_captured relay (Ok packet) short =
+    datagram_captured relay packet (datagram_of packet) short (payload_short packet (udp_place packet) short)
+
+event_says : (event : Event) (more : List RelayItem) (rest : List ℕ) → ((past : List RelayStatement) → MayCome (limits_given (settings_in past)) (items.Event event))
     → IsLineOf event (event_text event) → SaysItems more rest → SaysItems (items.Event event ∷ more) (event_text event ++ rest)
 unfolding event_text
 event_says event more rest may back says = λ past.
     let line = back.line in
     let piece = record { before = event_line event; ended = refl; only = back.only; short = back.says.short } in
     line_goes_on relay_kind past (statements.Item (items.Event event)) (map statements.Item more) (event_text event) line rest piece
-    (says_something event (fields line) back.says.says.1) back.says.says.0 (may (limits_given (settings_in past)), back.says.says.1) (says _)
+    (says_something event (fields line) back.says.says.1) back.says.says.0 (may past, back.says.says.1) (says _)
 
 reason_word : (packet : Result (List ℕ) Skip) → AreGlyphs (reason_of packet) × (length (reason_of packet) ≤ 5)
 reason_word (Err Cut) = (glyphs_of_literal (codes "cut") (search rules), omega arith)
@@ -59,7 +79,7 @@ item_says number item None more rest small back says = λ past.
 item_says number item (Some event) more rest small back says =
     let moment = events.Moment item.at in
     subst (SaysItems (items.Event moment ∷ items.Event event ∷ more)) (sym (append_assoc (event_text moment) (event_text event) rest))
-    (event_says moment (items.Event event ∷ more) (event_text event ++ rest) (λ given. tt) back.moment
+    (event_says moment (items.Event event ∷ more) (event_text event ++ rest) (λ past. tt) back.moment
     (event_says event more rest (payload_may event back.payload) back.line says))
 
 items_say : (relay : Ip) (number : ℕ) (all : List Item) (rest : List ℕ) → number + length all < 2 ^ 64 → AllByRecursion (IsReadBack relay) all
@@ -150,3 +170,24 @@ lines-next relay all i d inside =
     ap (lines_of_items relay 1) (take_more all i d inside)
     ∙ (lines-push relay 1 (take i all) item
     ∙ ap (λ (n : ℕ). lines_of_items relay 1 (take i all) ++ item_lines n item (event_in relay item.packet)) same)
+
+-- the text so far, one item later
+pub text-next : (relay : Ip) (all : List Item) (i : ℕ) (item : Item) (start before after : List ℕ) → i < length all → item ≡ get_or all i item
+    → before ≡ start ++ lines_of_items relay 1 (take i all) → after ≡ before ++ item_lines (i + 1) item (event_in relay item.packet)
+    → after ≡ start ++ lines_of_items relay 1 (take (i + 1) all)
+text-next relay all i item start before after inside is so_far written =
+    let seen = lines_of_items relay 1 (take i all) in
+    let line : Item → List ℕ = λ one. item_lines (i + 1) one (event_in relay one.packet) in
+    written ∙ (ap (λ (text : List ℕ). text ++ line item) so_far
+    ∙ (append_assoc start seen (line item)
+    ∙ ap (λ (text : List ℕ). start ++ text) (ap (λ (one : Item). seen ++ line one) is ∙ sym (lines-next relay all i item inside))))
+
+-- and that of all items, with the tail
+pub text-whole : (relay : Ip) (capture : Capture) (i : ℕ) (before after : List ℕ) → length capture.items ≤ i
+    → before ≡ relay_line relay ++ lines_of_items relay 1 (take i capture.items) → after ≡ before ++ tail_line capture.tail
+    → after ≡ capture_script_text relay capture
+unfolding capture_script_text
+text-whole relay capture i before after past so_far written =
+    let tail = tail_line capture.tail in
+    written ∙ (ap (λ (text : List ℕ). text ++ tail) (so_far ∙ ap (λ (all : List Item). relay_line relay ++ lines_of_items relay 1 all) (take_all i capture.items past))
+    ∙ append_assoc (relay_line relay) (lines_of_items relay 1 capture.items) tail)

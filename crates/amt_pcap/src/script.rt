@@ -1,8 +1,7 @@
 //! The relay script of a capture.
 
-ghost use Rattle.std.specs.Prelude.{◌≡◌, ◌≤◌, ◌++◌, length, All, IfOk, IfSome, OnOk, Ok, Some};
+ghost use Rattle.std.specs.Prelude.{◌≡◌, ◌≤◌, ◌++◌, length, IfOk, OnOk, Ok};
 ghost use Rattle.amt_values.specs.Text.{IsIpText, ip_text};
-ghost use Rattle.relay_machine.specs.EventSize.{IsPayload};
 ghost use Rattle.amt_script.specs.{Printed.{HasLine, IsLineOf}, Script.{IsRelayScript}, Texts.{event_text}};
 ghost use Rattle.amt_pcap.specs.Texts.{HasShortPackets, IsReadBack, IsShortPacket, capture_script_text, captured_script, event_in, event_of_packet, is_to, item_lines, reason_line, reason_of, relay_line, tail_line};
 
@@ -24,7 +23,7 @@ fn is_to(relay: &Ip, datagram: &Datagram) -> bool
 // The packet as one that a relay may copy.
 fn event_of_packet(alloc: Global, packet: &[u8]) -> Result<Option<Event>, AllocError>
     requires { length packet.now ≤ 65535 }
-    ensures found { IfOk result (λ event. event ≡ event_of_packet packet.now) }
+    ensures { IfOk result (λ event. event ≡ event_of_packet packet.now) }
 {
     let Ok(head) = packet_head(packet) else {
         return Ok(None);
@@ -39,7 +38,7 @@ fn event_of_packet(alloc: Global, packet: &[u8]) -> Result<Option<Event>, AllocE
 // What a packet is to a relay at this address, if anything.
 fn event_of(alloc: Global, relay: &Ip, packet: &[u8]) -> Result<Option<Event>, AllocError>
     requires { length packet.now ≤ 65535 }
-    ensures found { IfOk result (λ event. event ≡ event_in relay.now (Ok packet.now)) }
+    ensures { IfOk result (λ event. event ≡ event_in relay.now (Ok packet.now)) }
 {
     match datagram_of(alloc, packet)? {
         Some(datagram) => {
@@ -55,6 +54,20 @@ fn event_of(alloc: Global, relay: &Ip, packet: &[u8]) -> Result<Option<Event>, A
             event_of_packet(alloc, packet)
         }
         None => event_of_packet(alloc, packet),
+    }
+}
+
+fn event_in(
+    alloc: Global,
+    relay: &Ip,
+    packet: &Result<Bytes, Skip>,
+) -> Result<Option<Event>, AllocError>
+    requires { IsShortPacket packet.now }
+    ensures { IfOk result (λ event. event ≡ event_in relay.now packet.now) }
+{
+    match packet {
+        Ok(packet) => event_of(alloc, relay, packet.as_slice()),
+        Err(_) => Ok(None),
     }
 }
 
@@ -128,11 +141,7 @@ fn append_item(
         ≡ text.old ++ item_lines number item.now (event_in relay.now item.now.packet)) }
     ensures back { OnOk result (IsReadBack relay.now item.now) }
 {
-    let event = match &item.packet {
-        Ok(packet) => event_of(alloc, relay, packet.as_slice())?,
-        Err(_) => None,
-    };
-    match event {
+    match event_in(alloc, relay, &item.packet)? {
         Some(event) => {
             append_event(alloc, text, &Event::Moment(item.at))?;
             append_event(alloc, text, &event)
@@ -144,6 +153,7 @@ fn append_item(
 /// The script of a relay at this address, with all defaults, to which what was captured happens: each UDP datagram to
 /// its port 2268, and each packet to a group that is forwarded, at its moment. What is neither is a comment, and so is
 /// a tail.
+#[tactic(auto, unfolding(crate::specs::Texts::lines_of_items))]
 pub fn capture_script(alloc: Global, capture: &Capture, relay: &Ip) -> Result<Bytes, AllocError>
     requires { HasShortPackets capture.now }
     ensures text { IfOk result (λ text. text ≡ capture_script_text relay.now capture.now) }
