@@ -10,7 +10,7 @@ use Rattle.amt_script.specs.declared.line.RelayStatement.TheVariants as statemen
 use Rattle.amt_script.specs.declared.script.RelayItem.TheVariants as items
 use Rattle.amt_script.specs.declared.setting.Setting.TheVariants as settings
 use Rattle.amt_pcap.specs.{declared.{capture.{Capture.{Capture}, Item.{Item}, Skip.{Skip, TheVariants.{Cut, Frame, Ip as NoIp}}}, udp.Datagram.{Datagram}}, Texts.{AreReadBack, IsReadBack, IsShortPacket, capture_script_text, captured_script, comment, event_in, event_of, event_to, events_if, events_of_item, is_to, item_lines, lines_of_items, reason_of, relay_line, tail_line}, Udp.{datagram_of, udp_place}}
-use Rattle.amt_pcap.proofs.{Addresses.{ip_length, ip_word}, DumpLines.{payload_short}, Pieces.{GoesOn, comment_goes_on, end_goes_on, line_goes_on, piece_of_line}}
+use Rattle.amt_pcap.proofs.{Addresses.{ip_length, ip_word}, DumpLines.{payload_short}, Pieces.{GoesOn, IsPiece, comment_goes_on, end_goes_on, line_goes_on, piece_of_line}}
 
 -- after any statements the text says these items
 abbrev SaysItems : List RelayItem → List ℕ → Type 0
@@ -55,7 +55,7 @@ event_says : (event : Event) (more : List RelayItem) (rest : List ℕ) → ((pas
 unfolding event_text
 event_says event more rest may back says = λ past.
     let line = back.line in
-    let piece = record { before = event_line event; ended = refl; only = back.only; short = back.says.short } in
+    let piece : IsPiece (event_text event) line = record { before = event_line event; ended = refl; only = back.only; short = back.says.short } in
     line_goes_on relay_kind past (statements.Item (items.Event event)) (map statements.Item more) (event_text event) line rest piece
     (says_something event (fields line) back.says.says.1) back.says.says.0 (may past, back.says.says.1) (says _)
 
@@ -73,7 +73,7 @@ item_says : (number : ℕ) (item : Item) (event : Option Event) (more : List Rel
 item_says number item None more rest small back says = λ past.
     let reason = reason_of item.packet in
     let word = reason_word item.packet in
-    let few = omega (arith, digits number small, word.1, length-append (decimal number) (32 ∷ reason)) in
+    let few : length (decimal number ++ 32 ∷ reason) ≤ 100 = omega (arith, digits number small, word.1, length-append (decimal number) (32 ∷ reason)) in
     comment_goes_on relay_kind past (map statements.Item more) (decimal number ++ 32 ∷ reason) rest
     (plain_two (decimal number) reason (glyphs_of_digits number small) (plain_glyphs reason word.0)) few (says past)
 item_says number item (Some event) more rest small back says =

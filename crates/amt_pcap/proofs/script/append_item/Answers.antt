@@ -6,13 +6,13 @@ use Rattle.amt_pcap.proofs.script.append_item.Goals as goal
 
 pub append_event-requires-in-Some : goal.append_event-requires-in-Some
 append_event-requires-in-Some c =
-    let found = sym c.in_ok-event_in.ensures ∙ c.in-Some.is in
+    let found = sym c.in_ok-event.ensures ∙ c.in-Some.is in
     (subst (λ (event : Option Event). IfSome event IsCaptured) found (event_captured c.args.relay.now c.args.item.now.packet c.requires)).1
 
 pub returns-in_ok-append_event-in-Some-clause-back : goal.returns-in_ok-append_event-in-Some-clause-back
 returns-in_ok-append_event-in-Some-clause-back c =
     let item = c.args.item.now in
-    let found = sym c.in_ok-event_in.ensures ∙ c.in-Some.is in
+    let found = sym c.in_ok-event.ensures ∙ c.in-Some.is in
     let captured = subst (λ (event : Option Event). IfSome event IsCaptured) found (event_captured c.args.relay.now item.packet c.requires) in
     on_ok_weaker c.append_event-in-Some.result
     (λ (back : IsLineOf c.in-Some.event (event_text c.in-Some.event)).
