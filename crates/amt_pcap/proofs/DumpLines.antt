@@ -1,10 +1,10 @@
 -- The lines of a capture's datagrams say them.
-use Rattle.std.{proofs.{Common.{◌≡◌, ℕ, ◌+◌, ◌/◌, ◌<◌, ◌≤◌, ◌==◌, Bool, true, false, List, [], ◌∷◌, ◌++◌, length, get_or, take, slice_index, All, flat_map, Option, None, Some, refl, sym, ap, subst, ◌∙◌, ne_eqb, length-drop, length-take, arith, rules}, lemmas.{Bool.{cond_both}, List.{Concat.{flat_map-cons}, Elements.{All-from_recursion, All-get_or, recursion_from_All}}}}, specs.{List.{AllByRecursion}, Option.{IfSome}}}
+use Rattle.std.{proofs.{Common.{◌≡◌, ℕ, ◌+◌, ◌/◌, ◌<◌, ◌≤◌, ◌==◌, Bool, true, false, List, [], ◌∷◌, ◌++◌, length, get_or, take, slice_index, All, flat_map, Option, None, Some, refl, sym, ap, subst, ◌∙◌, ne_eqb, length-drop, length-take, arith, rules}, lemmas.{Bool.{cond_both}, List.{Concat.{flat_map-cons}, Elements.{All-cons, All-from_recursion, All-get_or, All-nil, recursion_from_All}}}}, specs.{List.{AllByRecursion}, Option.{IfSome}}}
 use Rattle.hex.specs.Hex.{encode_with, lower_digits}
 use Rattle.amt_values.specs.Octets.{AreOctets}
 use Rattle.script_lines.{specs.{Lines.{says_nothing}, Script.{Spells}, Texts.{hex_text}}, proofs.Words.{fields-word-last, hex_length, hex_word, plain_glyphs}}
 use Rattle.amt_dump.specs.Lines.{dump_kind}
-use Rattle.amt_pcap.specs.{declared.capture.{Capture.{Capture}, Item.{Item}}, Texts.{HasDumpLine, capture_lines_text, payload_line, tunnelled, tunnelled_in}, Udp.{datagram_if, has_udp}}
+use Rattle.amt_pcap.specs.{declared.{capture.{Capture.{Capture}, Item.{Item}}, udp.Datagram.{Datagram}}, Texts.{HasDumpLine, capture_lines_text, is_of_tunnel, payload_line, tunnelled, tunnelled_if, tunnelled_in}, Udp.{datagram_if, has_udp}}
 use Rattle.amt_pcap.proofs.Pieces.{GoesOn, end_goes_on, flat_map-next, line_goes_on, piece_of_line}
 
 -- a datagram is no longer than its packet
@@ -13,6 +13,11 @@ payload_short packet None short = tt
 payload_short packet (Some place) short =
     cond_both (has_udp packet place) _ None (λ found. IfSome found (λ datagram. length datagram.payload ≤ 65535))
     (λ _. omega (arith, length-take {A = ℕ}, length-drop {A = ℕ})) (λ _. tt)
+
+pub datagram_said : (datagram : Datagram) → HasDumpLine datagram.payload → All HasDumpLine (tunnelled_if (Some datagram))
+datagram_said datagram said =
+    cond_both (is_of_tunnel datagram) (datagram.payload ∷ []) [] (All HasDumpLine) (λ _. All-cons HasDumpLine datagram.payload [] said (All-nil HasDumpLine))
+    (λ _. All-nil HasDumpLine)
 
 digit_above : (d : ℕ) → d < 16 → 36 ≤ slice_index lower_digits d
 digit_above d small = All-get_or (λ digit. 36 ≤ digit) lower_digits d 0 small (All-from_recursion (λ digit. 36 ≤ digit) lower_digits (search rules))
