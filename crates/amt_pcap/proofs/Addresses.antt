@@ -1,5 +1,5 @@
 -- A printed address is a word of a line.
-use Rattle.std.{proofs.{Common.{◌≡◌, ℕ, ◌+◌, ◌^◌, ◌<◌, ◌≤◌, List, [], ◌∷◌, ◌++◌, length, take, drop, codes, decimal, inl, inr, ap, subst, length-append, arith}, Math.Seq.{take-append_seam}, NetLemmas.Texts.{AllSegments}, lemmas.{Bool.{cases_lt}, List.Elements.{All-tail, All-take}}}, specs.Net.Text.{dotted_text, groups_text, hex, hex_groups_text, longest_zero_run}}
+use Rattle.std.{proofs.{Common.{◌≡◌, ℕ, ◌+◌, ◌<◌, ◌≤◌, List, [], ◌∷◌, ◌++◌, length, take, drop, codes, decimal, inl, inr, ap, subst, length-append, arith}, Math.Seq.{take-append_seam}, NetLemmas.Texts.{AllSegments}, lemmas.{Bool.{cases_lt}, List.Elements.{All-tail, All-take}}}, specs.Net.Text.{dotted_text, groups_text, hex, hex_groups_text, longest_zero_run}}
 use Rattle.amt_values.{specs.{declared.address.Ip.{Ip, TheVariants.{V4, V6}}, Segments.{address_segments}, Text.{IsIpText, ip_text, v4_text, v6_text}}, proofs.{Printed.{text_after_colons, long_text, plain_text}, Segments.{AllSegments-address_segments, length-address_segments}, ShortGroups.{IsShortGroup-hex}}}
 use Rattle.script_lines.proofs.{Glyphs.{IsGlyph, AreGlyphs}, Peers.{glyphs_of_peer, peer_length}, Words.{IsWordOf}}
 

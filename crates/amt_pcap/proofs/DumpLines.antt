@@ -1,5 +1,5 @@
 -- The lines of a capture's datagrams say them.
-use Rattle.std.{proofs.{Common.{◌≡◌, ℕ, ◌+◌, ◌/◌, ◌<◌, ◌≤◌, ◌==◌, Bool, true, false, List, [], ◌∷◌, ◌++◌, length, get_or, take, slice_index, All, flat_map, Option, None, Some, refl, sym, ap, subst, ◌∙◌, ne_eqb, length-drop, length-take, arith, rules}, lemmas.{Bool.{cond_both}, List.{Concat.{flat_map-cons}, Elements.{All-cons, All-from_recursion, All-get_or, All-nil, recursion_from_All}}}}, specs.{List.{AllByRecursion}, Option.{IfSome}}}
+use Rattle.std.{proofs.{Common.{◌≡◌, ℕ, ◌+◌, ◌/◌, ◌<◌, ◌≤◌, ◌==◌, false, List, [], ◌∷◌, ◌++◌, length, get_or, take, slice_index, All, flat_map, Option, None, Some, refl, sym, ap, subst, ◌∙◌, ne_eqb, length-drop, length-take, arith, rules}, lemmas.{Bool.{cond_both}, List.{Concat.{flat_map-cons}, Elements.{All-cons, All-from_recursion, All-get_or, All-nil, recursion_from_All}}}}, specs.{List.{AllByRecursion}, Option.{IfSome}}}
 use Rattle.hex.specs.Hex.{encode_with, lower_digits}
 use Rattle.amt_values.specs.Octets.{AreOctets}
 use Rattle.script_lines.{specs.{Lines.{says_nothing}, Script.{Spells}, Texts.{hex_text}}, proofs.Words.{fields-word-last, hex_length, hex_word, plain_glyphs}}

@@ -1,11 +1,11 @@
 -- The script of a capture says its events.
-use Rattle.std.{proofs.{Common.{◌≡◌, ℕ, ◌+◌, ◌^◌, ◌<◌, ◌≤◌, ◌==◌, Bool, true, false, List, [], ◌∷◌, ◌++◌, length, map, take, get_or, All, flat_map, codes, decimal, replicate, Option, None, Some, Result, Ok, Err, refl, sym, ap, subst, ◌∙◌, append_assoc, append-nil, length-append, arith, rules}, lemmas.{Bool.{cond_both}, Fmt.{length-decimal-le}, List.{length-take-le, take_all, take_more, Concat.{flat_map-cons}, Elements.{recursion_from_All}}}}, specs.{List.{AllByRecursion}, Option.{IfSome}}}
+use Rattle.std.{proofs.{Common.{◌≡◌, ℕ, ◌+◌, ◌^◌, ◌<◌, ◌≤◌, ◌==◌, false, List, [], ◌∷◌, ◌++◌, length, map, take, get_or, All, flat_map, codes, decimal, replicate, Option, None, Some, Result, Ok, Err, refl, sym, ap, subst, ◌∙◌, append_assoc, append-nil, length-append, arith, rules}, lemmas.{Bool.{cond_both}, Fmt.{length-decimal-le}, List.{length-take-le, take_all, take_more, Concat.{flat_map-cons}, Elements.{recursion_from_All}}}}, specs.{List.{AllByRecursion}, Option.{IfSome}}}
 use Rattle.amt_values.specs.{declared.address.Ip.{Ip}, Group.{is_forwardable}, Text.{IsIpText, ip_text}}
 use Rattle.inner_datagrams.specs.{Head.{head_of}, declared.head.{Head.{Head}, HeadFault.{HeadFault}}}
 use Rattle.relay_machine.{specs.{declared.event.Event.{Event}, EventSize.{IsPayload}, Settings.{default_settings}}, proofs.Numbers.{AreLawful-default}}
 use Rattle.relay_machine.specs.declared.event.Event.TheVariants as events
 use Rattle.script_lines.{specs.Lines.{fields, says_nothing}, proofs.{Glyphs.{AreGlyphs, glyphs_of_digits}, Words.{fields-word, fields-two, glyphs_of_literal, plain_glyphs, plain_two}}}
-use Rattle.amt_script.specs.{declared.{line.RelayStatement.{RelayStatement}, script.RelayItem.{RelayItem}, setting.Setting.{Setting}}, Printed.{HasLine, IsLineOf}, Says.{SaysEvent}, Script.{IsRelayScript, MakesRelayScript, MayCome, items_in, relay_kind, settings_in}, Settling.{Settles, limits_given}, Texts.{event_line, event_text}}
+use Rattle.amt_script.specs.{declared.{line.RelayStatement.{RelayStatement}, script.RelayItem.{RelayItem}, setting.Setting.{Setting}}, Printed.{HasLine, IsLineOf}, Says.{SaysEvent}, Script.{IsRelayScript, MayCome, items_in, relay_kind, settings_in}, Settling.{Settles, limits_given}, Texts.{event_line, event_text}}
 use Rattle.amt_script.specs.declared.line.RelayStatement.TheVariants as statements
 use Rattle.amt_script.specs.declared.script.RelayItem.TheVariants as items
 use Rattle.amt_script.specs.declared.setting.Setting.TheVariants as settings
@@ -113,7 +113,7 @@ relay_says relay more rest names says =
     let after = codes "relay " ++ address in
     let line = codes "set " ++ after in
     let parts = fields-word (codes "set") after (omega arith) set
-        ∙ ap (λ (texts : List (List ℕ)). codes "set" ∷ texts) (fields-two (codes "relay") address (omega arith) key word.some word.glyphs) in
+    ∙ ap (λ (texts : List (List ℕ)). codes "set" ∷ texts) (fields-two (codes "relay") address (omega arith) key word.some word.glyphs) in
     let plain = plain_two (codes "set") after set (plain_two (codes "relay") address key (plain_glyphs address word.glyphs)) in
     line_goes_on relay_kind [] (statements.Setting (settings.Relay relay)) (map statements.Item more) (relay_line relay) line rest
     (piece_of_line line plain (omega (arith, ip_length relay))) (ap says_nothing parts) plain

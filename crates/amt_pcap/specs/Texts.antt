@@ -1,7 +1,7 @@
 -- The relay script of a capture, and the lines of the tunnel's datagrams in it.
-use Rattle.std.specs.Prelude.{◌≡◌, ℕ, suc, ◌+◌, ◌==◌, ◌&&◌, ◌||◌, ◌≤◌, Bool, List, [], ◌∷◌, ◌++◌, All, length, replicate, codes, decimal, flat_map, Option, Some, None, Result, Ok, Err, if◌then◌else◌, IfSome}
+use Rattle.std.specs.Prelude.{ℕ, ◌+◌, ◌==◌, ◌&&◌, ◌||◌, ◌≤◌, Bool, List, [], ◌∷◌, ◌++◌, All, length, replicate, codes, decimal, flat_map, Option, Some, None, Result, Ok, Err, if◌then◌else◌, IfSome}
 use Rattle.std.specs.Ordering.{eq_by_cmp}
-use Rattle.amt_values.specs.{declared.{address.Ip.{Ip}, peer.{Peer.{Peer}, TheConstants.{AMT_PORT}}}, Group.{is_forwardable}, Octets.{AreOctets}, Order.{ip_order}, Text.{ip_text}}
+use Rattle.amt_values.specs.{declared.{address.Ip.{Ip}, peer.{TheConstants.{AMT_PORT}}}, Group.{is_forwardable}, Octets.{AreOctets}, Order.{ip_order}, Text.{ip_text}}
 use Rattle.inner_datagrams.specs.{Head.{head_of}, declared.head.{Head.{Head}, HeadFault.{HeadFault}}}
 use Rattle.relay_machine.specs.{declared.event.Event.{Event}, EventSize.{IsPayload}, Settings.{default_settings}}
 use Rattle.relay_machine.specs.declared.event.Event.TheVariants as events

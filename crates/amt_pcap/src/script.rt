@@ -44,7 +44,9 @@ fn event_of(alloc: Global, relay: &Ip, packet: &[u8]) -> Result<Option<Event>, A
         Some(datagram) => {
             if is_to(relay, &datagram) {
                 let Datagram {
-                    source, payload, ..
+                    source,
+                    payload,
+                    ..
                 } = datagram;
                 return Ok(Some(Event::Datagram {
                     bytes: payload,
@@ -94,7 +96,11 @@ fn reason_of(packet: &Result<Bytes, Skip>) -> &'static str
 }
 
 // `# I REASON`.
-fn append_reason(text: &mut Bytes, number: u64, packet: &Result<Bytes, Skip>) -> Result<(), AllocError>
+fn append_reason(
+    text: &mut Bytes,
+    number: u64,
+    packet: &Result<Bytes, Skip>,
+) -> Result<(), AllocError>
     ensures { OnOk result (text.new ≡ text.old ++ reason_line number packet.now) }
 {
     text.append(b"# ")?;

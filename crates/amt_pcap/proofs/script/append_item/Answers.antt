@@ -1,7 +1,7 @@
-use Rattle.std.{proofs.{Common.{◌≡◌, Option, Some, sym, subst, ◌∙◌}, lemmas.Result.{on_ok_weaker}}, specs.Option.{IfSome}}
+use Rattle.std.{proofs.{Common.{Option, sym, subst, ◌∙◌}, lemmas.Result.{on_ok_weaker}}, specs.Option.{IfSome}}
 use Rattle.relay_machine.specs.declared.event.Event.{Event}
 use Rattle.amt_script.specs.{Printed.{IsLineOf}, Texts.{event_text}}
-use Rattle.amt_pcap.{specs.Texts.{AreReadBack, event_in}, proofs.RelayLines.{IsCaptured, event_captured}}
+use Rattle.amt_pcap.{specs.Texts.{AreReadBack}, proofs.RelayLines.{IsCaptured, event_captured}}
 use Rattle.amt_pcap.proofs.script.append_item.Goals as goal
 
 pub append_event-requires-in-Some : goal.append_event-requires-in-Some

@@ -1,4 +1,4 @@
-use Rattle.std.proofs.Common.{◌≡◌, ◌^◌, ◌<◌, ◌≤◌, List, ℕ, All, length, get_or, ap, sym, subst, arith, rules}
+use Rattle.std.proofs.Common.{◌≡◌, ◌^◌, ◌<◌, ◌≤◌, List, All, length, get_or, ap, sym, subst, arith, rules}
 use Rattle.std.proofs.lemmas.List.{take_all}
 use Rattle.amt_script.specs.Script.{IsRelayScript}
 use Rattle.amt_pcap.{specs.{declared.capture.Item.{Item}, Texts.{IsReadBack, captured_script, relay_line}}, proofs.{Pieces.{All-next}, RelayLines.{script_spelled, text-next, text-whole}}}

@@ -1,5 +1,4 @@
 use Rattle.std.proofs.Common.{◌≡◌, ◌++◌, All, take}
-use Rattle.amt_values.specs.Text.{IsIpText, ip_text}
 use Rattle.amt_pcap.specs.Texts.{IsReadBack, lines_of_items, relay_line}
 use Rattle.amt_pcap.proofs.script.capture_script.Given as goal
 
