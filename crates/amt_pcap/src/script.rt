@@ -1,9 +1,9 @@
 //! The relay script of a capture.
 
-ghost use Rattle.std.specs.Prelude.{◌≡◌, ◌≤◌, ◌++◌, length, IfOk, OnOk, Ok};
+ghost use Rattle.std.specs.Prelude.{◌≡◌, ◌≤◌, ◌++◌, length, IfOk, IfSome, OnOk, Ok};
 ghost use Rattle.amt_values.specs.Text.{IsIpText, ip_text};
 ghost use Rattle.amt_script.specs.{Printed.{HasLine, IsLineOf}, Script.{IsRelayScript}, Texts.{event_text}};
-ghost use Rattle.amt_pcap.specs.Texts.{HasShortPackets, IsReadBack, IsShortPacket, capture_script_text, captured_script, event_in, event_of_packet, is_to, item_lines, reason_line, reason_of, relay_line, tail_line};
+ghost use Rattle.amt_pcap.specs.Texts.{HasShortPackets, IsCaptured, IsReadBack, IsShortPacket, capture_script_text, captured_script, event_in, event_of_packet, is_to, item_lines, reason_line, reason_of, relay_line, tail_line};
 
 use crate::capture::{Capture, Item, Skip};
 use crate::udp::{Datagram, datagram_of};
@@ -23,7 +23,8 @@ fn is_to(relay: &Ip, datagram: &Datagram) -> bool
 // The packet as one that a relay may copy.
 fn event_of_packet(alloc: Global, packet: &[u8]) -> Result<Option<Event>, AllocError>
     requires { length packet.now ≤ 65535 }
-    ensures { IfOk result (λ event. event ≡ event_of_packet packet.now) }
+    ensures found { IfOk result (λ event. event ≡ event_of_packet packet.now) }
+    ensures fits { IfOk result (λ event. IfSome event IsCaptured) }
 {
     let Ok(head) = packet_head(packet) else {
         return Ok(None);
@@ -38,7 +39,8 @@ fn event_of_packet(alloc: Global, packet: &[u8]) -> Result<Option<Event>, AllocE
 // What a packet is to a relay at this address, if anything.
 fn event_of(alloc: Global, relay: &Ip, packet: &[u8]) -> Result<Option<Event>, AllocError>
     requires { length packet.now ≤ 65535 }
-    ensures { IfOk result (λ event. event ≡ event_in relay.now (Ok packet.now)) }
+    ensures found { IfOk result (λ event. event ≡ event_in relay.now (Ok packet.now)) }
+    ensures fits { IfOk result (λ event. IfSome event IsCaptured) }
 {
     match datagram_of(alloc, packet)? {
         Some(datagram) => {
@@ -65,7 +67,8 @@ fn event_in(
     packet: &Result<Bytes, Skip>,
 ) -> Result<Option<Event>, AllocError>
     requires { IsShortPacket packet.now }
-    ensures { IfOk result (λ event. event ≡ event_in relay.now packet.now) }
+    ensures found { IfOk result (λ event. event ≡ event_in relay.now packet.now) }
+    ensures fits { IfOk result (λ event. IfSome event IsCaptured) }
 {
     match packet {
         Ok(packet) => event_of(alloc, relay, packet.as_slice()),
