@@ -20,7 +20,7 @@ fn is_to(relay: &Ip, datagram: &Datagram) -> bool
     datagram.destination.ip == *relay && datagram.destination.port == AMT_PORT
 }
 
-// The packet as one that a relay may copy.
+// The packet as one that a relay would copy, if it is one.
 fn event_of_packet(alloc: Global, packet: &[u8]) -> Result<Option<Event>, AllocError>
     requires { length packet.now ≤ 65535 }
     ensures found { IfOk result (λ event. event ≡ event_of_packet packet.now) }
@@ -61,6 +61,7 @@ fn event_of(alloc: Global, relay: &Ip, packet: &[u8]) -> Result<Option<Event>, A
     }
 }
 
+// What a captured item is to it, if anything.
 fn event_in(
     alloc: Global,
     relay: &Ip,
@@ -76,7 +77,7 @@ fn event_in(
     }
 }
 
-// Puts the line of an event at the end. It is read back as the event.
+// Puts the line of an event at the end, which is read back as the event.
 fn append_event(alloc: Global, text: &mut Bytes, event: &Event) -> Result<(), AllocError>
     requires { HasLine event.now }
     ensures text { OnOk result (text.new ≡ text.old ++ event_text event.now) }
@@ -137,7 +138,7 @@ fn print_relay_line(alloc: Global, relay: &Ip) -> Result<Bytes, AllocError>
     Ok(text)
 }
 
-// The lines of an item: its moment and its event, or why it is none. They are read back as them.
+// Puts the lines of an item at the end: its moment and its event, which are read back, or why it is none.
 fn append_item(
     alloc: Global,
     text: &mut Bytes,
