@@ -1,3 +1,4 @@
+mod Accepted
 mod Digits
 mod Naming
 mod Numbers
@@ -5,6 +6,7 @@ mod Optional
 mod PlainDns
 mod PlainGateway
 mod PlainLines
+mod PlainPcap
 mod PlainRelay
 mod Reading
 mod Steps

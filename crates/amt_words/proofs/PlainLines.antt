@@ -2,7 +2,7 @@
 use Rattle.std.{proofs.Common.{◌≡◌, ◌∙◌, ℕ, List, [], ◌∷◌, Some, codes, refl, ap, arith}, specs.{Prelude.{option_map}, Str.Parse.{digits_value}}}
 use Rattle.clap.{specs.{Words.{Row, Shape, Text, built, one_of}, Walk.{Walk, nothing_held}}, proofs.OnLiterals.{clap_on_literals}}
 use Rattle.amt_words.specs.{declared.command.{Command.TheVariants.{Replay, Dump, Vectors, Load}, Replayable.{Replayable}}, Line.{IsCommandLine, IsNumberIn, TakesPlainLines, number_of}}
-use Rattle.amt_words.{specs.Usage.{load_usage, replayable_name}, proofs.{Digits.{IsPlain, Passes, digits_number, digits_plain, number_passes}, PlainDns.{dns_line}, PlainGateway.{gateway_line}, PlainRelay.{relay_line}, Steps.{Path, Steps, start, walked_by}, Walks.{end_kinds, number_row, rows_at_end, taken}}}
+use Rattle.amt_words.{specs.Usage.{load_usage, replayable_name}, proofs.{Digits.{IsPlain, Passes, digits_number, digits_plain, number_passes}, PlainDns.{dns_line}, PlainGateway.{gateway_line}, PlainPcap.{pcap_line}, PlainRelay.{relay_line}, Steps.{Path, Steps, start, walked_by}, Walks.{end_kinds, number_row, rows_at_end, taken}}}
 use Rattle.amt_words.specs.declared.command.Replayable.TheVariants as kinds
 
 pub replay_line : (kind : Replayable) → IsCommandLine (Replay kind) (codes "replay" ∷ replayable_name kind ∷ [])
@@ -66,4 +66,4 @@ load_line seed count s c =
     )
 
 pub plain_lines : TakesPlainLines
-plain_lines = record { replay = replay_line; dump = dump_line; vectors = vectors_line; load = load_line; relay = relay_line; gateway = gateway_line; dns = dns_line }
+plain_lines = record { replay = replay_line; dump = dump_line; vectors = vectors_line; load = load_line; relay = relay_line; gateway = gateway_line; dns = dns_line; pcap = pcap_line }

@@ -1,7 +1,7 @@
 -- Which command the arguments name, and what they give it.
-use Rattle.std.specs.{Prelude.{◌≡◌, ◌≤◌, ⊤, ℕ, List, [], ◌∷◌, ◌++◌, Option, Some, None, codes, IfSome, option_map, unwrap_or}, List.{Any}, Str.Parse.{IsNumeral, digits_value, without_leading_plus}}
+use Rattle.std.specs.{Prelude.{◌≡◌, ◌≤◌, ◌⊎◌, ⊤, ℕ, List, [], ◌∷◌, ◌++◌, Option, Some, None, codes, IfSome, option_map, unwrap_or}, List.{Any}, Str.Parse.{IsNumeral, digits_value, without_leading_plus}}
 use Rattle.clap.specs.{Lexer.{strip_byte}, Words.{App, Text, first_of, matches_of, one_of, subcommand_of}}
-use Rattle.amt_words.specs.{declared.command.{Command.{Command, TheVariants.{Replay, Dump, Vectors, Load, Relay, Gateway, Dns}}, Replayable.{Replayable}}, Usage.{Takes, dns_usage, dump_usage, gateway_usage, load_usage, relay_usage, replay_usage, replayable_name, usages, vectors_usage}}
+use Rattle.amt_words.specs.{declared.command.{Command.{Command, TheVariants.{Replay, Dump, Vectors, Load, Relay, Gateway, Dns, Pcap}}, Replayable.{Replayable}}, Usage.{Takes, dns_usage, dump_usage, gateway_usage, load_usage, pcap_usage, relay_usage, replay_usage, replayable_name, usages, vectors_usage}}
 
 -- the written definition of a command
 abbrev pub usage_of : Command → App
@@ -12,6 +12,7 @@ usage_of (Load seed count) = load_usage
 usage_of (Relay file turns workers) = relay_usage
 usage_of (Gateway file turns) = gateway_usage
 usage_of (Dns source) = dns_usage
+usage_of (Pcap relay) = pcap_usage
 
 -- the number that an unsigned type reads from a text: decimal digits, where a plus may stand first
 abbrev pub number_of : Text → ℕ
@@ -57,6 +58,7 @@ Gives (Load seed count) words = GivesLoad seed count words
 Gives (Relay file turns workers) words = GivesRelay file turns workers words
 Gives (Gateway file turns) words = GivesRun gateway_usage file turns words
 Gives (Dns source) words = word_in dns_usage (codes "SOURCE") words ≡ Some source
+Gives (Pcap relay) words = word_in pcap_usage (codes "RELAY") words ≡ relay
 
 -- the arguments are the command's name, words that its written definition takes, and those give
 -- what it holds
@@ -69,6 +71,12 @@ IsCommandLine command (name ∷ words) =
 abbrev pub IsAccepted : List Text → Type 0
 IsAccepted [] = ⊥
 IsAccepted (name ∷ words) = Any (λ usage. (name ≡ usage.top.name) × Takes usage words) usages
+
+-- the name is that of one of these written definitions, and it takes the words
+abbrev pub IsTakenBy : List App → Text → List Text → Type 0
+IsTakenBy [] name words = ⊥
+IsTakenBy (usage ∷ others) name words =
+    ((name ≡ usage.top.name) × Takes usage words) ⊎ IsTakenBy others name words
 
 -- the count of a load is from 1 to 65,536
 abbrev pub IsLoadCount : ℕ → Type 0
@@ -91,6 +99,7 @@ IsWithinLimits (Load seed count) = IsLoadCount count
 IsWithinLimits (Relay file turns workers) = IsTurns turns × AreWorkers workers
 IsWithinLimits (Gateway file turns) = IsTurns turns
 IsWithinLimits (Dns source) = ⊤
+IsWithinLimits (Pcap relay) = ⊤
 
 -- decimal digits of a number from least to most
 abbrev pub IsNumberIn : ℕ → ℕ → Text → Type 0
@@ -102,12 +111,17 @@ abbrev pub option_words : Text → Option Text → List Text
 option_words name None = []
 option_words name (Some number) = name ∷ number ∷ []
 
+-- a word, if one is given
+abbrev pub given_word : Option Text → List Text
+given_word None = []
+given_word (Some word) = word ∷ []
+
 -- the word doesn't begin with a hyphen
 abbrev pub IsPlainWord : Text → Type 0
 IsPlainWord word = strip_byte 45 word ≡ None
 
--- the plain line of each command is one of its lines: numbers are decimal digits, and a file or a source
--- doesn't begin with a hyphen
+-- the plain line of each command is one of its lines: numbers are decimal digits, and a file, a source or a
+-- relay doesn't begin with a hyphen
 pub record TakesPlainLines : Type 0 where
   pub replay : (kind : Replayable)
       → IsCommandLine (Replay kind) (codes "replay" ∷ replayable_name kind ∷ [])
@@ -127,3 +141,5 @@ pub record TakesPlainLines : Type 0 where
       → IsCommandLine (Gateway file (turns_or_most (option_map (digits_value 10) turns)))
       (codes "gateway" ∷ file ∷ option_words (codes "--turns") turns)
   pub dns : (source : Text) → IsPlainWord source → IsCommandLine (Dns source) (codes "dns" ∷ source ∷ [])
+  pub pcap : (relay : Option Text) → IfSome relay IsPlainWord
+      → IsCommandLine (Pcap relay) (codes "pcap" ∷ given_word relay)

@@ -24,6 +24,10 @@ number_rule id least most = record (new_rule id) {
 abbrev pub word_rule : Text → Rule
 word_rule id = record (new_rule id) { action = Some Set; required = true }
 
+-- an argument without a name, any word, which may be left out
+abbrev pub optional_word_rule : Text → Rule
+optional_word_rule id = record (new_rule id) { action = Some Set }
+
 -- `--id NUMBER`, which may be left out: a number from least to most
 abbrev pub option_rule : Text → ℕ → ℕ → Rule
 option_rule id least most = record (new_rule id) {
@@ -83,9 +87,14 @@ gateway_usage = serving_usage (codes "gateway")
 abbrev pub dns_usage : App
 dns_usage = with_rule (bare_usage (codes "dns")) (word_rule (codes "SOURCE"))
 
+-- pcap [RELAY]
+abbrev pub pcap_usage : App
+pcap_usage = with_rule (bare_usage (codes "pcap")) (optional_word_rule (codes "RELAY"))
+
 -- the written definitions, one a command
 abbrev pub usages : List App
-usages = replay_usage ∷ dump_usage ∷ vectors_usage ∷ load_usage ∷ relay_usage ∷ gateway_usage ∷ dns_usage ∷ []
+usages = replay_usage ∷ dump_usage ∷ vectors_usage ∷ load_usage ∷ relay_usage ∷ gateway_usage ∷ dns_usage
+    ∷ pcap_usage ∷ []
 
 -- the words after a command's name are among those that its written definition takes
 abbrev pub Takes : App → List Text → Type 0

@@ -43,6 +43,10 @@ pub enum Command<'a> {
     Dns {
         source: Word<'a>,
     },
+    /// Read a capture, and write a relay's script of it, or the datagrams of the tunnel.
+    Pcap {
+        relay: Option<Word<'a>>,
+    },
 }
 
 /// Why arguments are no command.

@@ -2,7 +2,7 @@
 
 ghost use Rattle.std.specs.Prelude.{◌≡◌, [], codes, false, true, IfOk};
 ghost use Rattle.clap.specs.{Words.{IsParsedFrom, IsPlainArg, app_of, args_of, found_of, groups_of, rule_of, with_subcommand}, Simple.{new_shape}, Built.{TakesValue}, declared.{builder.command.Command.TheViews.{out-Command as fields_of}, parser.matches.ArgMatches.{ArgMatches as MatchesValue}}};
-ghost use Rattle.amt_words.specs.{Given.{HasNumber, HasNumberIfAny, HasWord}, Usage.{bare_usage, dns_usage, gateway_usage, load_usage, number_rule, option_rule, relay_usage, replay_usage, word_rule}};
+ghost use Rattle.amt_words.specs.{Given.{HasNumber, HasNumberIfAny, HasWord}, Usage.{bare_usage, dns_usage, gateway_usage, load_usage, number_rule, option_rule, optional_word_rule, pcap_usage, relay_usage, replay_usage, word_rule}};
 
 use clap::builder::ValueParser;
 use clap::{Arg, ArgAction};
@@ -139,4 +139,18 @@ pub fn dns_definition<'a>(alloc: Global) -> Result<clap::Command<'a>, AllocError
         → IsParsedFrom definition found → HasWord (found_of found) (codes "SOURCE")) }
 {
     bare_definition(alloc, "dns").arg(word_argument(alloc, "SOURCE"))
+}
+
+fn optional_word_argument<'a>(alloc: Global, id: &'a str) -> Arg<'a>
+    ensures rule { rule_of result ≡ optional_word_rule id.entry.now }
+    ensures local { result.global ≡ false }
+{
+    Arg::new(alloc, id).action(ArgAction::Set)
+}
+
+/// `pcap [RELAY]`.
+pub fn pcap_definition<'a>(alloc: Global) -> Result<clap::Command<'a>, AllocError>
+    ensures usage { IfOk result (λ definition. app_of definition ≡ pcap_usage) }
+{
+    bare_definition(alloc, "pcap").arg(optional_word_argument(alloc, "RELAY"))
 }

@@ -12,6 +12,7 @@ mod dns;
 mod gateway;
 mod load;
 mod parsing;
+mod pcap;
 mod relay;
 mod replay;
 mod serving;
