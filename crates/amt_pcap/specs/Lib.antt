@@ -1,0 +1,3 @@
+pub mod Capture
+pub mod Udp
+pub mod Texts

@@ -1,0 +1,109 @@
+-- The relay script of a capture, and the lines of the tunnel's datagrams in it.
+use Rattle.std.specs.Prelude.{◌≡◌, ℕ, suc, ◌+◌, ◌==◌, ◌&&◌, ◌||◌, ◌≤◌, Bool, List, [], ◌∷◌, ◌++◌, All, length, replicate, codes, decimal, flat_map, Option, Some, None, Result, Ok, Err, if◌then◌else◌}
+use Rattle.std.specs.Ordering.{eq_by_cmp}
+use Rattle.amt_values.specs.{declared.{address.Ip.{Ip}, peer.{Peer.{Peer}, TheConstants.{AMT_PORT}}}, Group.{is_forwardable}, Order.{ip_order}, Text.{ip_text}}
+use Rattle.inner_datagrams.specs.Head.{head_at}
+use Rattle.relay_machine.specs.{declared.event.Event.{Event}, Settings.{default_settings}}
+use Rattle.relay_machine.specs.declared.event.Event.TheVariants as events
+use Rattle.script_lines.specs.Texts.{hex_text}
+use Rattle.amt_script.specs.{declared.script.{RelayItem.{RelayItem}, RelayScript.{RelayScript}}, Texts.{event_text}}
+use Rattle.amt_script.specs.declared.script.RelayItem.TheVariants as items
+use Rattle.amt_pcap.specs.{declared.{capture.{Capture.{Capture}, Item.{Item}, Skip.{Skip, TheVariants.{Cut, Frame, Ip as NoIp}}}, udp.Datagram.{Datagram}}, Udp.{datagram_of}}
+
+-- the datagram was sent to the relay, at AMT's port
+abbrev pub is_to : Ip → Datagram → Bool
+is_to relay datagram = eq_by_cmp ip_order datagram.destination.ip relay && (datagram.destination.port == AMT_PORT)
+
+-- one of its ends has AMT's port
+abbrev pub is_of_tunnel : Datagram → Bool
+is_of_tunnel datagram = (datagram.source.port == AMT_PORT) || (datagram.destination.port == AMT_PORT)
+
+-- a packet to a group that is forwarded is one that a relay would copy
+abbrev pub event_of_packet : List ℕ → Option Event
+event_of_packet packet = if is_forwardable (head_at packet).group then Some (events.Packet packet) else None
+
+-- a datagram to the relay is one that it gets; else it may be a packet to copy
+abbrev pub event_of : Ip → List ℕ → Option Datagram → Option Event
+event_of relay packet None = event_of_packet packet
+event_of relay packet (Some datagram) =
+    if is_to relay datagram then Some (events.Datagram datagram.payload datagram.source) else event_of_packet packet
+
+-- what a captured item is to the relay, if anything
+abbrev pub event_in : Ip → Result (List ℕ) Skip → Option Event
+event_in relay (Err skip) = None
+event_in relay (Ok packet) = event_of relay packet (datagram_of packet)
+
+-- why an item is none
+abbrev pub reason_of : Result (List ℕ) Skip → List ℕ
+reason_of (Err Cut) = codes "cut"
+reason_of (Err Frame) = codes "frame"
+reason_of (Err NoIp) = codes "ip"
+reason_of (Ok packet) = codes "other"
+
+-- `# I REASON`
+abbrev pub reason_line : ℕ → Result (List ℕ) Skip → List ℕ
+reason_line number packet = codes "# " ++ (decimal number ++ (codes " " ++ (reason_of packet ++ (10 ∷ []))))
+
+-- a line with its moment, and a line with the event; or why there is none
+abbrev pub item_lines : ℕ → Item → Option Event → List ℕ
+item_lines number item None = reason_line number item.packet
+item_lines number item (Some event) = event_text (events.Moment item.at) ++ event_text event
+
+-- of items that are numbered on from here
+unfoldable pub lines_of_items : Ip → ℕ → List Item → List ℕ
+lines_of_items relay number [] = []
+lines_of_items relay number (item ∷ more) =
+    item_lines number item (event_in relay item.packet) ++ lines_of_items relay (number + 1) more
+
+-- `# tail N`, where the capture ends within a record
+abbrev pub tail_line : ℕ → List ℕ
+tail_line tail = if tail == 0 then [] else codes "# tail " ++ (decimal tail ++ (10 ∷ []))
+
+-- `set relay ADDRESS`, the lines of all items, and of the tail
+unfoldable pub capture_script_text : Ip → Capture → List ℕ
+capture_script_text relay capture =
+    codes "set relay " ++ (ip_text relay ++ (10 ∷ (lines_of_items relay 1 capture.items ++ tail_line capture.tail)))
+
+-- the events of an item: its moment, and what it is
+abbrev pub events_if : ℕ → Option Event → List RelayItem
+events_if at None = []
+events_if at (Some event) = items.Event (events.Moment at) ∷ items.Event event ∷ []
+
+abbrev pub events_of_item : Ip → Item → List RelayItem
+events_of_item relay item = events_if item.at (event_in relay item.packet)
+
+-- the script of a relay at this address with all defaults, to which the capture's events happen in order
+abbrev pub captured_script : Ip → Capture → RelayScript
+captured_script relay capture = record {
+  settings = default_settings relay;
+  secret = record { 0 = replicate 32 0 };
+  items = flat_map (events_of_item relay) capture.items;
+}
+
+-- the tunnel's datagram in an item, if there is one
+abbrev pub tunnelled_if : Option Datagram → List (List ℕ)
+tunnelled_if None = []
+tunnelled_if (Some datagram) = if is_of_tunnel datagram then datagram.payload ∷ [] else []
+
+abbrev pub tunnelled_in : Result (List ℕ) Skip → List (List ℕ)
+tunnelled_in (Err skip) = []
+tunnelled_in (Ok packet) = tunnelled_if (datagram_of packet)
+
+-- those of a capture, in order
+abbrev pub tunnelled : Capture → List (List ℕ)
+tunnelled capture = flat_map (λ item. tunnelled_in item.packet) capture.items
+
+-- a line for each
+abbrev pub payload_line : List ℕ → List ℕ
+payload_line payload = hex_text payload ++ (10 ∷ [])
+
+unfoldable pub capture_lines_text : Capture → List ℕ
+capture_lines_text capture = flat_map payload_line (tunnelled capture)
+
+-- each packet is one that IP can carry
+abbrev pub IsShortPacket : Result (List ℕ) Skip → Type 0
+IsShortPacket (Err skip) = Unit {0}
+IsShortPacket (Ok packet) = length packet ≤ 65535
+
+abbrev pub HasShortPackets : Capture → Type 0
+HasShortPackets capture = All (λ item. IsShortPacket item.packet) capture.items

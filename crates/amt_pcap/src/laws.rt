@@ -1,0 +1,16 @@
+//! What the definition of a capture means.
+
+ghost use Rattle.std.specs.Prelude.{◌≡◌, List, ℕ};
+ghost use Rattle.amt_pcap.specs.{declared.capture.Capture.{Capture as CaptureValue}, Capture.{HasParts, IsCapture}};
+
+/// The octets of a capture are those of its head, of its records and of its tail, with none between
+/// them, so their lengths add up to the whole.
+pub fn captures_are_whole()
+    ensures { (bytes : List ℕ) (capture : CaptureValue) → IsCapture bytes capture → HasParts bytes capture }
+{}
+
+/// Octets are one capture at most, so readers that keep to the definition can't differ.
+pub fn captures_have_one_meaning()
+    ensures { (bytes : List ℕ) (one other : CaptureValue)
+        → IsCapture bytes one → IsCapture bytes other → one ≡ other }
+{}
