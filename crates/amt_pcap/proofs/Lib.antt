@@ -1,1 +1,5 @@
+mod Addresses
+mod DumpLines
+mod Pieces
+mod RelayLines
 pub mod Unique

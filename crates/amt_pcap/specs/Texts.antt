@@ -1,12 +1,12 @@
 -- The relay script of a capture, and the lines of the tunnel's datagrams in it.
-use Rattle.std.specs.Prelude.{◌≡◌, ℕ, suc, ◌+◌, ◌==◌, ◌&&◌, ◌||◌, ◌≤◌, Bool, List, [], ◌∷◌, ◌++◌, All, length, replicate, codes, decimal, flat_map, Option, Some, None, Result, Ok, Err, if◌then◌else◌}
+use Rattle.std.specs.Prelude.{ℕ, ◌+◌, ◌==◌, ◌&&◌, ◌||◌, ◌≤◌, Bool, List, [], ◌∷◌, ◌++◌, All, length, replicate, codes, decimal, flat_map, Option, Some, None, Result, Ok, Err, if◌then◌else◌, IfSome}
 use Rattle.std.specs.Ordering.{eq_by_cmp}
-use Rattle.amt_values.specs.{declared.{address.Ip.{Ip}, peer.{Peer.{Peer}, TheConstants.{AMT_PORT}}}, Group.{is_forwardable}, Order.{ip_order}, Text.{ip_text}}
-use Rattle.inner_datagrams.specs.Head.{head_at}
-use Rattle.relay_machine.specs.{declared.event.Event.{Event}, Settings.{default_settings}}
+use Rattle.amt_values.specs.{declared.{address.Ip.{Ip}, peer.{TheConstants.{AMT_PORT}}}, Group.{is_forwardable}, Octets.{AreOctets}, Order.{ip_order}, Text.{ip_text}}
+use Rattle.inner_datagrams.specs.{Head.{head_of}, declared.head.{Head.{Head}, HeadFault.{HeadFault}}}
+use Rattle.relay_machine.specs.{declared.event.Event.{Event}, EventSize.{IsPayload}, Settings.{default_settings}}
 use Rattle.relay_machine.specs.declared.event.Event.TheVariants as events
 use Rattle.script_lines.specs.Texts.{hex_text}
-use Rattle.amt_script.specs.{declared.script.{RelayItem.{RelayItem}, RelayScript.{RelayScript}}, Texts.{event_text}}
+use Rattle.amt_script.specs.{declared.script.{RelayItem.{RelayItem}, RelayScript.{RelayScript}}, Printed.{IsLineOf}, Texts.{event_text}}
 use Rattle.amt_script.specs.declared.script.RelayItem.TheVariants as items
 use Rattle.amt_pcap.specs.{declared.{capture.{Capture.{Capture}, Item.{Item}, Skip.{Skip, TheVariants.{Cut, Frame, Ip as NoIp}}}, udp.Datagram.{Datagram}}, Udp.{datagram_of}}
 
@@ -19,8 +19,12 @@ abbrev pub is_of_tunnel : Datagram → Bool
 is_of_tunnel datagram = (datagram.source.port == AMT_PORT) || (datagram.destination.port == AMT_PORT)
 
 -- a packet to a group that is forwarded is one that a relay would copy
+abbrev pub event_to : List ℕ → Result Head HeadFault → Option Event
+event_to packet (Err fault) = None
+event_to packet (Ok head) = if is_forwardable head.group then Some (events.Packet packet) else None
+
 abbrev pub event_of_packet : List ℕ → Option Event
-event_of_packet packet = if is_forwardable (head_at packet).group then Some (events.Packet packet) else None
+event_of_packet packet = event_to packet (head_of packet)
 
 -- a datagram to the relay is one that it gets; else it may be a packet to copy
 abbrev pub event_of : Ip → List ℕ → Option Datagram → Option Event
@@ -40,9 +44,13 @@ reason_of (Err Frame) = codes "frame"
 reason_of (Err NoIp) = codes "ip"
 reason_of (Ok packet) = codes "other"
 
+-- `# TEXT`: a line that says nothing
+abbrev pub comment : List ℕ → List ℕ
+comment text = codes "# " ++ (text ++ (10 ∷ []))
+
 -- `# I REASON`
 abbrev pub reason_line : ℕ → Result (List ℕ) Skip → List ℕ
-reason_line number packet = codes "# " ++ (decimal number ++ (codes " " ++ (reason_of packet ++ (10 ∷ []))))
+reason_line number packet = comment (decimal number ++ (codes " " ++ reason_of packet))
 
 -- a line with its moment, and a line with the event; or why there is none
 abbrev pub item_lines : ℕ → Item → Option Event → List ℕ
@@ -57,12 +65,25 @@ lines_of_items relay number (item ∷ more) =
 
 -- `# tail N`, where the capture ends within a record
 abbrev pub tail_line : ℕ → List ℕ
-tail_line tail = if tail == 0 then [] else codes "# tail " ++ (decimal tail ++ (10 ∷ []))
+tail_line tail = if tail == 0 then [] else comment (codes "tail " ++ decimal tail)
 
--- `set relay ADDRESS`, the lines of all items, and of the tail
+-- `set relay ADDRESS`
+abbrev pub relay_line : Ip → List ℕ
+relay_line relay = codes "set relay " ++ (ip_text relay ++ (10 ∷ []))
+
+-- it, the lines of all items, and of the tail
 unfoldable pub capture_script_text : Ip → Capture → List ℕ
 capture_script_text relay capture =
-    codes "set relay " ++ (ip_text relay ++ (10 ∷ (lines_of_items relay 1 capture.items ++ tail_line capture.tail)))
+    relay_line relay ++ (lines_of_items relay 1 capture.items ++ tail_line capture.tail)
+
+-- the line of an event, and that of its moment, are read back as them
+pub record AreReadBack (at : ℕ) (event : Event) : Type 0 where
+  pub moment : IsLineOf (events.Moment at) (event_text (events.Moment at))
+  pub payload : IsPayload event
+  pub line : IsLineOf event (event_text event)
+
+abbrev pub IsReadBack : Ip → Item → Type 0
+IsReadBack relay item = IfSome (event_in relay item.packet) (AreReadBack item.at)
 
 -- the events of an item: its moment, and what it is
 abbrev pub events_if : ℕ → Option Event → List RelayItem
@@ -92,6 +113,11 @@ tunnelled_in (Ok packet) = tunnelled_if (datagram_of packet)
 -- those of a capture, in order
 abbrev pub tunnelled : Capture → List (List ℕ)
 tunnelled capture = flat_map (λ item. tunnelled_in item.packet) capture.items
+
+-- octets that a line of a dump can say
+pub record HasDumpLine (payload : List ℕ) : Type 0 where
+  pub octets : AreOctets payload
+  pub short : length payload ≤ 65535
 
 -- a line for each
 abbrev pub payload_line : List ℕ → List ℕ
