@@ -3,7 +3,8 @@
 #
 # usage: tools/run-examples.sh [COMMAND]      COMMAND is the binary of `amt`, and crates/amt/out/amt without it
 #
-# A folder of examples/ with a `script` is replayed, and an `answer` of DNS is told, as its README says. One with a `run.sh` is run over the loopback,
+# A folder of examples/ with a `script` is replayed, and an `answer` of DNS is told, as its README says; a `capture` has to
+# become its `script` and its `lines`. One with a `run.sh` is run over the loopback,
 # for some seconds; where it has a script besides, its status counts alone. In the `expected` of such a run NONCE, MAC
 # and PORT stand for what is random, and N for a number that depends on how often a message had to be sent again. A line
 # that comes several times in a row, as a message that is sent again, counts once. A folder with neither has nothing to
@@ -63,6 +64,14 @@ tell() {
     say "$(basename "$1")" "$3" $status
 }
 
+# captured FOLDER: the script and the lines of a capture are as they should be
+captured() {
+    local status=0
+    $amt pcap 192.0.2.1 < "$1/capture" 2> "$work/said" | diff "$1/script" - >> "$work/said" || status=$?
+    $amt pcap < "$1/capture" 2>> "$work/said" | diff "$1/lines" - >> "$work/said" || status=$?
+    say "$(basename "$1")" pcap $status
+}
+
 # named PATTERN FOLDER: the command in the README that fits
 named() {
     grep -o -m 1 "$1 <" "$2/README.md" | sed 's/ <$//'
@@ -89,6 +98,7 @@ run() {
 for folder in "$top"/examples/*/; do
     folder=${folder%/}
     if [ -e "$folder/script" ]; then tell "$folder" script "$(named 'replay \(relay\|upstream\|gateway\|pair\)' "$folder")"; fi
+    if [ -e "$folder/capture" ]; then captured "$folder"; fi
     if [ -e "$folder/answer" ]; then tell "$folder" answer "$(named 'dns [0-9a-f.:]*' "$folder")"; fi
     if [ -e "$folder/run.sh" ]; then run "$folder"; fi
     if [ ! -e "$folder/script" ] && [ ! -e "$folder/answer" ] && [ ! -e "$folder/run.sh" ]; then echo "nothing $(basename "$folder")"; fi

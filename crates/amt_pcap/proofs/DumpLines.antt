@@ -4,15 +4,19 @@ use Rattle.hex.specs.Hex.{encode_with, lower_digits}
 use Rattle.amt_values.specs.Octets.{AreOctets}
 use Rattle.script_lines.{specs.{Lines.{says_nothing}, Script.{Spells}, Texts.{hex_text}}, proofs.Words.{fields-word-last, hex_length, hex_word, plain_glyphs}}
 use Rattle.amt_dump.specs.Lines.{dump_kind}
-use Rattle.amt_pcap.specs.{declared.{capture.{Capture.{Capture}, Item.{Item}}, udp.Datagram.{Datagram}}, Texts.{HasDumpLine, capture_lines_text, is_of_tunnel, payload_line, tunnelled, tunnelled_if, tunnelled_in}, Udp.{datagram_if, has_udp}}
+use Rattle.amt_pcap.specs.{declared.{capture.{Capture.{Capture}, Item.{Item}}, udp.Datagram.{Datagram}}, Texts.{HasDumpLine, capture_lines_text, is_of_tunnel, payload_line, tunnelled, tunnelled_if, tunnelled_in}, Udp.{datagram_if, datagram_of, has_udp, udp_place}}
 use Rattle.amt_pcap.proofs.Pieces.{GoesOn, end_goes_on, flat_map-next, line_goes_on, piece_of_line}
 
--- a datagram is no longer than its packet
-pub payload_short : (packet : List ℕ) (place : Option ℕ) → length packet ≤ 65535 → IfSome (datagram_if packet place) (λ datagram. length datagram.payload ≤ 65535)
-payload_short packet None short = tt
-payload_short packet (Some place) short =
-    cond_both (has_udp packet place) _ None (λ found. IfSome found (λ datagram. length datagram.payload ≤ 65535))
+short_payload : (packet : List ℕ) (place : Option ℕ) → length packet ≤ 65535 → IfSome (datagram_if packet place) (λ one. length one.payload ≤ 65535)
+short_payload packet None short = tt
+short_payload packet (Some place) short =
+    cond_both (has_udp packet place) _ None (λ found. IfSome found (λ one. length one.payload ≤ 65535))
     (λ _. omega (arith, length-take {A = ℕ}, length-drop {A = ℕ})) (λ _. tt)
+
+-- a datagram is no longer than its packet
+pub payload_short : (packet : List ℕ) (datagram : Datagram) → datagram_of packet ≡ Some datagram → length packet ≤ 65535 → length datagram.payload ≤ 65535
+payload_short packet datagram found short =
+    subst (λ (one : Option Datagram). IfSome one (λ d. length d.payload ≤ 65535)) found (short_payload packet (udp_place packet) short)
 
 pub datagram_said : (datagram : Datagram) → HasDumpLine datagram.payload → All HasDumpLine (tunnelled_if (Some datagram))
 datagram_said datagram said =

@@ -1,16 +1,15 @@
 -- The script of a capture says its events.
-use Rattle.std.{proofs.{Common.{◌≡◌, ℕ, ◌+◌, ◌^◌, ◌<◌, ◌≤◌, ◌==◌, false, List, [], ◌∷◌, ◌++◌, length, map, take, get_or, All, flat_map, codes, decimal, replicate, Option, None, Some, Result, Ok, Err, refl, sym, ap, subst, ◌∙◌, append_assoc, append-nil, length-append, arith, rules}, lemmas.{Bool.{cond_both}, Fmt.{length-decimal-le}, List.{length-take-le, take_all, take_more, Concat.{flat_map-cons}, Elements.{recursion_from_All}}}}, specs.{List.{AllByRecursion}, Option.{IfSome}}}
-use Rattle.amt_values.specs.{declared.address.Ip.{Ip}, Group.{is_forwardable}, Text.{IsIpText, ip_text}}
-use Rattle.inner_datagrams.specs.{Head.{head_of}, declared.head.{Head.{Head}, HeadFault.{HeadFault}}}
+use Rattle.std.{proofs.{Common.{◌≡◌, ℕ, ◌+◌, ◌^◌, ◌<◌, ◌≤◌, ◌==◌, false, List, [], ◌∷◌, ◌++◌, length, map, drop, get_or, All, flat_map, codes, decimal, replicate, Option, None, Some, Result, Ok, Err, refl, sym, ap, subst, ◌∙◌, add-one, append_assoc, append-nil, length-append, arith, rules}, Math.Seq.{drop-cons}, lemmas.{Bool.{cond_both}, Fmt.{length-decimal-le}, List.{drop_all, Concat.{flat_map-cons}, Elements.{recursion_from_All}}}}, specs.{List.{AllByRecursion}, Option.{IfSome}}}
+use Rattle.amt_values.specs.{declared.address.Ip.{Ip}, Text.{IsIpText, ip_text}}
 use Rattle.relay_machine.{specs.{declared.event.Event.{Event}, EventSize.{IsPayload}, Settings.{default_settings}}, proofs.Numbers.{AreLawful-default}}
 use Rattle.relay_machine.specs.declared.event.Event.TheVariants as events
 use Rattle.script_lines.{specs.Lines.{fields, says_nothing}, proofs.{Glyphs.{AreGlyphs, glyphs_of_digits}, Words.{fields-word, fields-two, glyphs_of_literal, plain_glyphs, plain_two}}}
-use Rattle.amt_script.specs.{declared.{line.RelayStatement.{RelayStatement}, script.RelayItem.{RelayItem}, setting.Setting.{Setting}}, Printed.{HasLine, IsLineOf}, Says.{SaysEvent}, Script.{IsRelayScript, MayCome, items_in, relay_kind, settings_in}, Settling.{Settles, limits_given}, Texts.{event_line, event_text}}
+use Rattle.amt_script.specs.{declared.{line.RelayStatement.{RelayStatement}, script.RelayItem.{RelayItem}, setting.Setting.{Setting}}, Printed.{IsLineOf}, Says.{SaysEvent}, Script.{IsRelayScript, MayCome, items_in, relay_kind, settings_in}, Settling.{Settles, limits_given}, Texts.{event_line, event_text}}
 use Rattle.amt_script.specs.declared.line.RelayStatement.TheVariants as statements
 use Rattle.amt_script.specs.declared.script.RelayItem.TheVariants as items
 use Rattle.amt_script.specs.declared.setting.Setting.TheVariants as settings
-use Rattle.amt_pcap.specs.{declared.{capture.{Capture.{Capture}, Item.{Item}, Skip.{Skip, TheVariants.{Cut, Frame, Ip as NoIp}}}, udp.Datagram.{Datagram}}, Texts.{AreReadBack, IsReadBack, IsShortPacket, capture_script_text, captured_script, comment, event_in, event_of, event_to, events_if, events_of_item, is_to, item_lines, lines_of_items, reason_of, relay_line, tail_line}, Udp.{datagram_of, udp_place}}
-use Rattle.amt_pcap.proofs.{Addresses.{ip_length, ip_word}, DumpLines.{payload_short}, Pieces.{GoesOn, IsPiece, comment_goes_on, end_goes_on, line_goes_on, piece_of_line}}
+use Rattle.amt_pcap.specs.{declared.{capture.{Capture.{Capture}, Item.{Item}, Skip.{Skip, TheVariants.{Cut, Frame, Ip as NoIp}}}}, Texts.{AreReadBack, IsReadBack, capture_script_text, captured_script, comment, event_in, events_if, events_of_item, item_lines, lines_of_items, reason_of, relay_line, tail_line}}
+use Rattle.amt_pcap.proofs.{Addresses.{ip_length, ip_word}, Pieces.{GoesOn, IsPiece, comment_goes_on, end_goes_on, line_goes_on, piece_of_line}}
 
 -- after any statements the text says these items
 abbrev SaysItems : List RelayItem → List ℕ → Type 0
@@ -29,26 +28,6 @@ payload_may (events.Datagram bytes from) is past = tt
 payload_may (events.Packet bytes) is past = tt
 payload_may (events.Rotate secret) is past = absurd is
 payload_may (events.Limits limits) is past = absurd is
-
--- what a captured packet is
-abbrev pub IsCaptured : Event → Type 0
-IsCaptured event = IsPayload event × HasLine event
-
-packet_captured : (packet : List ℕ) (head : Result Head HeadFault) → length packet ≤ 65535 → IfSome (event_to packet head) IsCaptured
-packet_captured packet (Err fault) short = tt
-packet_captured packet (Ok head) short =
-    cond_both (is_forwardable head.group) _ None (λ found. IfSome found IsCaptured) (λ _. (tt, short)) (λ _. tt)
-
-datagram_captured : (relay : Ip) (packet : List ℕ) (datagram : Option Datagram) → length packet ≤ 65535
-    → IfSome datagram (λ one. length one.payload ≤ 65535) → IfSome (event_of relay packet datagram) IsCaptured
-datagram_captured relay packet None short few = packet_captured packet (head_of packet) short
-datagram_captured relay packet (Some datagram) short few =
-    cond_both (is_to relay datagram) _ _ (λ found. IfSome found IsCaptured) (λ _. (tt, few)) (λ _. packet_captured packet (head_of packet) short)
-
-pub event_captured : (relay : Ip) (packet : Result (List ℕ) Skip) → IsShortPacket packet → IfSome (event_in relay packet) IsCaptured
-event_captured relay (Err skip) short = tt
-event_captured relay (Ok packet) short =
-    datagram_captured relay packet (datagram_of packet) short (payload_short packet (udp_place packet) short)
 
 event_says : (event : Event) (more : List RelayItem) (rest : List ℕ) → ((past : List RelayStatement) → MayCome (limits_given (settings_in past)) (items.Event event))
     → IsLineOf event (event_text event) → SaysItems more rest → SaysItems (items.Event event ∷ more) (event_text event ++ rest)
@@ -146,48 +125,27 @@ script_spelled relay capture names back few small =
       };
     }
 
-lines-push : (relay : Ip) (number : ℕ) (all : List Item) (item : Item)
-    → lines_of_items relay number (all ++ item ∷ []) ≡ lines_of_items relay number all ++ item_lines (number + length all) item (event_in relay item.packet)
+-- the text so far and the lines of the items that are left, one item later
+pub left-next : (relay : Ip) (all : List Item) (i : ℕ) (item : Item) (whole before after : List ℕ) → i < length all → item ≡ get_or all i item
+    → before ++ lines_of_items relay (i + 1) (drop i all) ≡ whole → after ≡ before ++ item_lines (i + 1) item (event_in relay item.packet)
+    → after ++ lines_of_items relay (i + 1 + 1) (drop (i + 1) all) ≡ whole
 unfolding lines_of_items
-lines-push relay number [] item =
-    let same : number ≡ number + 0 = omega arith in
-    append-nil _ ∙ ap (λ (n : ℕ). item_lines n item (event_in relay item.packet)) same
-lines-push relay number (first ∷ all) item =
-    let line = item_lines number first (event_in relay first.packet) in
-    let later = lines_of_items relay (number + 1) all in
-    let same : number + 1 + length all ≡ number + length (first ∷ all) = omega arith in
-    ap (λ (text : List ℕ). line ++ text) (lines-push relay (number + 1) all item)
-    ∙ (ap (λ (n : ℕ). line ++ (later ++ item_lines n item (event_in relay item.packet))) same
-    ∙ sym (append_assoc line later (item_lines (number + length (first ∷ all)) item (event_in relay item.packet))))
+left-next relay all i item whole before after inside is so_far written =
+    let left = drop (i + 1) all in
+    let line = item_lines (i + 1) item (event_in relay item.packet) in
+    let opened : item ∷ left ≡ drop i all =
+    ap (λ (one : Item). one ∷ left) is ∙ sym (rw (add-one i) (drop-cons all i item inside)) in
+    ap (λ (text : List ℕ). text ++ lines_of_items relay (i + 1 + 1) left) written
+    ∙ (append_assoc before line (lines_of_items relay (i + 1 + 1) left)
+    ∙ (ap (λ (items : List Item). before ++ lines_of_items relay (i + 1) items) opened ∙ so_far))
 
--- the lines so far, and those of the next item
-pub lines-next : (relay : Ip) (all : List Item) (i : ℕ) (d : Item) → i < length all
-    → lines_of_items relay 1 (take (i + 1) all)
-    ≡ lines_of_items relay 1 (take i all) ++ item_lines (i + 1) (get_or all i d) (event_in relay (get_or all i d).packet)
-lines-next relay all i d inside =
-    let item = get_or all i d in
-    let same : 1 + length (take i all) ≡ i + 1 = omega (arith, length-take-le i all (omega (arith, inside))) in
-    ap (lines_of_items relay 1) (take_more all i d inside)
-    ∙ (lines-push relay 1 (take i all) item
-    ∙ ap (λ (n : ℕ). lines_of_items relay 1 (take i all) ++ item_lines n item (event_in relay item.packet)) same)
-
--- the text so far, one item later
-pub text-next : (relay : Ip) (all : List Item) (i : ℕ) (item : Item) (start before after : List ℕ) → i < length all → item ≡ get_or all i item
-    → before ≡ start ++ lines_of_items relay 1 (take i all) → after ≡ before ++ item_lines (i + 1) item (event_in relay item.packet)
-    → after ≡ start ++ lines_of_items relay 1 (take (i + 1) all)
-text-next relay all i item start before after inside is so_far written =
-    let seen = lines_of_items relay 1 (take i all) in
-    let line : Item → List ℕ = λ one. item_lines (i + 1) one (event_in relay one.packet) in
-    written ∙ (ap (λ (text : List ℕ). text ++ line item) so_far
-    ∙ (append_assoc start seen (line item)
-    ∙ ap (λ (text : List ℕ). start ++ text) (ap (λ (one : Item). seen ++ line one) is ∙ sym (lines-next relay all i item inside))))
-
--- and that of all items, with the tail
-pub text-whole : (relay : Ip) (capture : Capture) (i : ℕ) (before after : List ℕ) → length capture.items ≤ i
-    → before ≡ relay_line relay ++ lines_of_items relay 1 (take i capture.items) → after ≡ before ++ tail_line capture.tail
-    → after ≡ capture_script_text relay capture
-unfolding capture_script_text
-text-whole relay capture i before after past so_far written =
+-- and with none left, and the tail
+pub left-none : (relay : Ip) (capture : Capture) (i : ℕ) (before after : List ℕ) → length capture.items ≤ i
+    → before ++ lines_of_items relay (i + 1) (drop i capture.items) ≡ relay_line relay ++ lines_of_items relay 1 capture.items
+    → after ≡ before ++ tail_line capture.tail → after ≡ capture_script_text relay capture
+unfolding capture_script_text lines_of_items
+left-none relay capture i before after past so_far written =
     let tail = tail_line capture.tail in
-    written ∙ (ap (λ (text : List ℕ). text ++ tail) (so_far ∙ ap (λ (all : List Item). relay_line relay ++ lines_of_items relay 1 all) (take_all i capture.items past))
+    let none = ap (λ (items : List Item). before ++ lines_of_items relay (i + 1) items) (drop_all i capture.items past) in
+    written ∙ (ap (λ (text : List ℕ). text ++ tail) (sym (append-nil before) ∙ (sym none ∙ so_far))
     ∙ append_assoc (relay_line relay) (lines_of_items relay 1 capture.items) tail)

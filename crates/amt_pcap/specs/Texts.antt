@@ -6,7 +6,7 @@ use Rattle.inner_datagrams.specs.{Head.{head_of}, declared.head.{Head.{Head}, He
 use Rattle.relay_machine.specs.{declared.event.Event.{Event}, EventSize.{IsPayload}, Settings.{default_settings}}
 use Rattle.relay_machine.specs.declared.event.Event.TheVariants as events
 use Rattle.script_lines.specs.Texts.{hex_text}
-use Rattle.amt_script.specs.{declared.script.{RelayItem.{RelayItem}, RelayScript.{RelayScript}}, Printed.{IsLineOf}, Texts.{event_text}}
+use Rattle.amt_script.specs.{declared.script.{RelayItem.{RelayItem}, RelayScript.{RelayScript}}, Printed.{HasLine, IsLineOf}, Texts.{event_text}}
 use Rattle.amt_script.specs.declared.script.RelayItem.TheVariants as items
 use Rattle.amt_pcap.specs.{declared.{capture.{Capture.{Capture}, Item.{Item}, Skip.{Skip, TheVariants.{Cut, Frame, Ip as NoIp}}}, udp.Datagram.{Datagram}}, Udp.{datagram_of}}
 
@@ -75,6 +75,10 @@ relay_line relay = codes "set relay " ++ (ip_text relay ++ (10 ∷ []))
 unfoldable pub capture_script_text : Ip → Capture → List ℕ
 capture_script_text relay capture =
     relay_line relay ++ (lines_of_items relay 1 capture.items ++ tail_line capture.tail)
+
+-- what a captured packet is: a datagram or a packet that a line can say
+abbrev pub IsCaptured : Event → Type 0
+IsCaptured event = IsPayload event × HasLine event
 
 -- the line of an event, and that of its moment, are read back as them
 pub record AreReadBack (at : ℕ) (event : Event) : Type 0 where

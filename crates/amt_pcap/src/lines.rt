@@ -18,7 +18,7 @@ fn is_of_tunnel(datagram: &Datagram) -> bool
     datagram.source.port == AMT_PORT || datagram.destination.port == AMT_PORT
 }
 
-// The line of the tunnel's datagram in a packet, if there is one.
+// Puts the line of the tunnel's datagram in a packet at the end, if there is one.
 fn append_packet(alloc: Global, text: &mut Bytes, packet: &[u8]) -> Result<(), AllocError>
     requires { length packet.now ≤ 65535 }
     ensures text { OnOk result (text.new ≡ text.old ++ flat_map payload_line (tunnelled_in (Ok packet.now))) }

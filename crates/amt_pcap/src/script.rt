@@ -1,9 +1,9 @@
 //! The relay script of a capture.
 
-ghost use Rattle.std.specs.Prelude.{◌≡◌, ◌≤◌, ◌++◌, length, IfOk, OnOk, Ok};
+ghost use Rattle.std.specs.Prelude.{◌≡◌, ◌≤◌, ◌++◌, length, IfOk, IfSome, OnOk, Ok};
 ghost use Rattle.amt_values.specs.Text.{IsIpText, ip_text};
 ghost use Rattle.amt_script.specs.{Printed.{HasLine, IsLineOf}, Script.{IsRelayScript}, Texts.{event_text}};
-ghost use Rattle.amt_pcap.specs.Texts.{HasShortPackets, IsReadBack, IsShortPacket, capture_script_text, captured_script, event_in, event_of_packet, is_to, item_lines, reason_line, reason_of, relay_line, tail_line};
+ghost use Rattle.amt_pcap.specs.Texts.{HasShortPackets, IsCaptured, IsReadBack, IsShortPacket, capture_script_text, captured_script, event_in, event_of_packet, is_to, item_lines, reason_line, reason_of, relay_line, tail_line};
 
 use crate::capture::{Capture, Item, Skip};
 use crate::udp::{Datagram, datagram_of};
@@ -20,10 +20,11 @@ fn is_to(relay: &Ip, datagram: &Datagram) -> bool
     datagram.destination.ip == *relay && datagram.destination.port == AMT_PORT
 }
 
-// The packet as one that a relay may copy.
+// The packet as one that a relay would copy, if it is one.
 fn event_of_packet(alloc: Global, packet: &[u8]) -> Result<Option<Event>, AllocError>
     requires { length packet.now ≤ 65535 }
-    ensures { IfOk result (λ event. event ≡ event_of_packet packet.now) }
+    ensures found { IfOk result (λ event. event ≡ event_of_packet packet.now) }
+    ensures fits { IfOk result (λ event. IfSome event IsCaptured) }
 {
     let Ok(head) = packet_head(packet) else {
         return Ok(None);
@@ -38,7 +39,8 @@ fn event_of_packet(alloc: Global, packet: &[u8]) -> Result<Option<Event>, AllocE
 // What a packet is to a relay at this address, if anything.
 fn event_of(alloc: Global, relay: &Ip, packet: &[u8]) -> Result<Option<Event>, AllocError>
     requires { length packet.now ≤ 65535 }
-    ensures { IfOk result (λ event. event ≡ event_in relay.now (Ok packet.now)) }
+    ensures found { IfOk result (λ event. event ≡ event_in relay.now (Ok packet.now)) }
+    ensures fits { IfOk result (λ event. IfSome event IsCaptured) }
 {
     match datagram_of(alloc, packet)? {
         Some(datagram) => {
@@ -59,13 +61,15 @@ fn event_of(alloc: Global, relay: &Ip, packet: &[u8]) -> Result<Option<Event>, A
     }
 }
 
+// What a captured item is to it, if anything.
 fn event_in(
     alloc: Global,
     relay: &Ip,
     packet: &Result<Bytes, Skip>,
 ) -> Result<Option<Event>, AllocError>
     requires { IsShortPacket packet.now }
-    ensures { IfOk result (λ event. event ≡ event_in relay.now packet.now) }
+    ensures found { IfOk result (λ event. event ≡ event_in relay.now packet.now) }
+    ensures fits { IfOk result (λ event. IfSome event IsCaptured) }
 {
     match packet {
         Ok(packet) => event_of(alloc, relay, packet.as_slice()),
@@ -73,7 +77,7 @@ fn event_in(
     }
 }
 
-// Puts the line of an event at the end. It is read back as the event.
+// Puts the line of an event at the end, which is read back as the event.
 fn append_event(alloc: Global, text: &mut Bytes, event: &Event) -> Result<(), AllocError>
     requires { HasLine event.now }
     ensures text { OnOk result (text.new ≡ text.old ++ event_text event.now) }
@@ -134,7 +138,7 @@ fn print_relay_line(alloc: Global, relay: &Ip) -> Result<Bytes, AllocError>
     Ok(text)
 }
 
-// The lines of an item: its moment and its event, or why it is none. They are read back as them.
+// Puts the lines of an item at the end: its moment and its event, which are read back, or why it is none.
 fn append_item(
     alloc: Global,
     text: &mut Bytes,

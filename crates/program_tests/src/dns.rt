@@ -10,7 +10,12 @@ use std::process::Abort;
 // 198.51.100.9, and the head and question of an answer for it that counts two records.
 const SOURCE: Ip = Ip::V4(0xc633_6409);
 
-const BEGINNING: &[u8] = b"\x00\x00\x81\x80\x00\x01\x00\x02\x00\x00\x00\x00\x019\x03100\x0251\x03198\x07in-addr\x04arpa\x00\x01\x04\x00\x01";
+const BEGINNING: &[u8] =
+    b"\x00\x00\x81\x80\x00\x01\x00\x02\x00\x00\x00\x00\x019\x03100\x0251\x03198\x07in-addr\x04arpa\x00\x01\x04\x00\x01";
+
+// The query for it, with the id 1234 in hexadecimal digits.
+const QUERY: &[u8] =
+    b"\x12\x34\x01\x00\x00\x01\x00\x00\x00\x00\x00\x00\x019\x03100\x0251\x03198\x07in-addr\x04arpa\x00\x01\x04\x00\x01";
 
 // A label of three octets that look like a name, and its end; a pointer to within it, and one to itself; the
 // last octet begins a label that isn't there.
@@ -102,7 +107,7 @@ fn check_chain(rt: &impl Abort, alloc: Global) -> Result<(), DnsFault> {
 fn check_query(rt: &impl Abort, alloc: Global) -> Result<(), AllocError> {
     let name = reverse_name(alloc, &SOURCE)?;
     let query = write_query(alloc, 0x1234, &name)?;
-    assert_eq!(rt; query.as_slice(), b"\x12\x34\x01\x00\x00\x01\x00\x00\x00\x00\x00\x00\x019\x03100\x0251\x03198\x07in-addr\x04arpa\x00\x01\x04\x00\x01");
+    assert_eq!(rt; query.as_slice(), QUERY);
     Ok(())
 }
 

@@ -8,6 +8,7 @@ use crate::script::is_script;
 use amt_values::Bytes;
 use arguments::read_arguments;
 pub use escapes::append_escaped;
+use hex::FromHexError;
 use std::alloc::{AllocError, Global};
 
 /// What a run of the command is given.
@@ -96,6 +97,7 @@ impl Case {
             "$" => self.given.take_command(alloc, rest),
             "<" => append_line(&mut self.given.input, rest),
             "<\\" => append_escaped(&mut self.given.input, rest),
+            "<x" => append_octets(alloc, &mut self.given.input, rest),
             ">" => append_line(&mut self.wanted.output, rest),
             ">\\" => append_escaped(&mut self.wanted.output, rest),
             "!" => append_line(&mut self.wanted.error, rest),
@@ -200,6 +202,15 @@ fn append_line(text: &mut Bytes, line: &str) -> Result<(), LineFault> {
     text.append(line.as_bytes())?;
     text.push(b'\n')?;
     Ok(())
+}
+
+// Octets as pairs of hexadecimal digits, as of a file that is no text.
+fn append_octets(alloc: Global, octets: &mut Bytes, digits: &str) -> Result<(), LineFault> {
+    match hex::decode(alloc, digits.as_bytes()) {
+        Ok(more) => Ok(octets.append(more.as_slice())?),
+        Err(FromHexError::OutOfMemory) => Err(LineFault::Memory),
+        Err(_) => Err(LineFault::Malformed),
+    }
 }
 
 /// The case of the lines that begin each case of a file, and of its own.
