@@ -1,16 +1,17 @@
 -- The commands, by cases: what each reads, it reads in one way at most, and with one fault at most.
-use Rattle.std.proofs.Common.{◌≡◌, ℕ, List, [], ◌∷◌, Option, inl, inr, refl, sym, subst, arith}
+use Rattle.std.proofs.Common.{◌≡◌, ℕ, List, [], ◌∷◌, Option, Some, None, inl, inr, refl, sym, subst, arith}
 use Rattle.script_lines.{specs.{Kind.{IsLawfulKind, Kind}, Script.{IsErrorOf, RulesOutScripts, Spells}, declared.fault.ScriptError.{ScriptError}}, proofs.Verdicts.{one_fault, one_script}}
 use Rattle.script_lines.specs.declared.fault.ScriptError.TheVariants as errors
 use Rattle.amt_dump.{proofs.Lawful.{dump_kind_lawful, one_dump}, specs.Lines.{dump_kind}}
+use Rattle.amt_pcap.proofs.Unique.{IsCapture-unique}
 use Rattle.amt_script.{proofs.Lawful.{relay_kind_lawful}, specs.Script.{relay_kind}}
 use Rattle.amt_vectors.{proofs.{Lawful.{vector_kind_lawful}, Reports.{report_unique}}, specs.Kind.{vector_kind}}
 use Rattle.gateway_script.{proofs.Lawful.{gateway_kind_lawful}, specs.Script.{gateway_kind}}
 use Rattle.pair_script.{proofs.Lawful.{pair_kind_lawful}, specs.Script.{pair_kind}}
-use Rattle.amt_words.specs.{declared.command.{Command.{Command, TheVariants.{Dns, Dump, Load, Replay, Vectors, Gateway as GatewayServing, Relay as RelayServing}}, Replayable.TheVariants.{Gateway, Pair, Relay, Upstream}}, Line.{IsAccepted, IsCommandLine}, Usage.{dns_usage, dump_usage, gateway_usage, load_usage, relay_usage, replay_usage, vectors_usage}}
+use Rattle.amt_words.specs.{declared.command.{Command.{Command, TheVariants.{Dns, Dump, Load, Pcap, Replay, Vectors, Gateway as GatewayServing, Relay as RelayServing}}, Replayable.TheVariants.{Gateway, Pair, Relay, Upstream}}, Line.{IsAccepted, IsCommandLine}, Usage.{dns_usage, dump_usage, gateway_usage, load_usage, pcap_usage, relay_usage, replay_usage, vectors_usage}}
 use Rattle.amt_ports.specs.declared.files.Files.{Ghosts as FilesTell}
 use Rattle.serving_commands.specs.Lives.{Tells}
-use Rattle.amt_command.proofs.Lookups.{one_cause, one_lookup}
+use Rattle.amt_command.proofs.{Captures.{one_capture_cause, one_captured, one_relay_cause}, Lookups.{one_cause, one_lookup}}
 use Rattle.amt_command.specs.{Command.{work_of}, Running.{IsGatewayLine, IsRelayLine, ServesFor}, Serving.{untouched}, Task.{HasOneFaultFor, HasOneValue, IsErrorBy, Task, TellsError, TellsLine}, declared.task.TaskFault.{TaskFault}}
 
 pub one_value_of : (command : Command) → HasOneValue (work_of command)
@@ -21,6 +22,8 @@ one_value_of (Replay Upstream) = one_script relay_kind relay_kind_lawful
 one_value_of Dump = one_dump
 one_value_of Vectors = report_unique
 one_value_of (Dns source) = one_lookup source
+one_value_of (Pcap None) = IsCapture-unique
+one_value_of (Pcap (Some relay)) = one_captured relay
 one_value_of (Load seed count) = tt
 one_value_of (RelayServing file turns workers) = tt
 one_value_of (GatewayServing file turns) = tt
@@ -39,6 +42,8 @@ one_fault_of (Replay Upstream) = one_line relay_kind relay_kind_lawful
 one_fault_of Dump = one_line dump_kind dump_kind_lawful
 one_fault_of Vectors = one_line vector_kind vector_kind_lawful
 one_fault_of (Dns source) = one_cause source
+one_fault_of (Pcap None) = one_capture_cause
+one_fault_of (Pcap (Some relay)) = one_relay_cause relay
 one_fault_of (Load seed count) = tt
 one_fault_of (RelayServing file turns workers) = tt
 one_fault_of (GatewayServing file turns) = tt
@@ -53,6 +58,7 @@ accepted (Load seed count) (name ∷ words) is = (3, load_usage, omega arith, re
 accepted (RelayServing file turns workers) (name ∷ words) is = (4, relay_usage, omega arith, refl, (is.0, is.1))
 accepted (GatewayServing file turns) (name ∷ words) is = (5, gateway_usage, omega arith, refl, (is.0, is.1))
 accepted (Dns source) (name ∷ words) is = (6, dns_usage, omega arith, refl, (is.0, is.1))
+accepted (Pcap relay) (name ∷ words) is = (7, pcap_usage, omega arith, refl, (is.0, is.1))
 
 -- what a reader of lines says of its error in two clauses, as the fault of a task whose values are by what the lines
 -- spell

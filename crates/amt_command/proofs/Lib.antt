@@ -1,4 +1,5 @@
 pub mod Answering
+pub mod Captures
 pub mod Commands
 pub mod Endings
 pub mod Lines

@@ -1,16 +1,17 @@
 -- The commands, by what each does, and the statuses of `amt`.
-use Rattle.std.specs.{Prelude.{ℕ, ◌==◌, List, [], ◌∷◌, ◌++◌, None, IsTrue, codes, if◌then◌else◌}, List.{list_any}}
+use Rattle.std.specs.{Prelude.{ℕ, ◌==◌, List, [], ◌∷◌, ◌++◌, None, Some, IsTrue, codes, if◌then◌else◌}, List.{list_any}}
 use Rattle.amt_dns.specs.Texts.{dns_text}
 use Rattle.amt_dump.specs.{Dump.{IsDump}, Lines.{dump_kind}}
+use Rattle.amt_pcap.specs.{declared.capture.Capture.{Capture}, Capture.{IsCapture}, Texts.{capture_lines_text, capture_script_text}}
 use Rattle.amt_ports.specs.Causes.{Rose}
 use Rattle.amt_script.specs.{Script.{relay_kind}, Texts.{relay_script_text}, declared.script.RelayScript.{RelayScript}}
 use Rattle.amt_vectors.specs.{Kind.{vector_kind}, Report.{IsVectorsReport}, Texts.{difference_of, suite_text}, declared.report.SuiteReport.{SuiteReport}}
-use Rattle.amt_words.specs.declared.command.{Command.{Command, TheVariants.{Dns, Dump, Load, Replay, Vectors, Gateway as GatewayServing, Relay as RelayServing}}, Replayable.TheVariants.{Gateway, Pair, Relay, Upstream}}
+use Rattle.amt_words.specs.declared.command.{Command.{Command, TheVariants.{Dns, Dump, Load, Pcap, Replay, Vectors, Gateway as GatewayServing, Relay as RelayServing}}, Replayable.TheVariants.{Gateway, Pair, Relay, Upstream}}
 use Rattle.gateway_script.specs.{Script.{gateway_kind}, Texts.{gateway_script_text}, declared.script.GatewayScript.{GatewayScript}}
 use Rattle.pair_script.specs.{Script.{pair_kind}, Texts.{pair_script_text}, declared.script.PairScript.{PairScript}}
 use Rattle.relay_load.specs.{Counts.{summary_of}, Script.{load_script_of}, Texts.{load_text}}
 use Rattle.upstream_script.specs.Texts.{upstream_script_text}
-use Rattle.amt_command.specs.{declared.dns.Lookup.{Lookup}, Dns.{IsLookup, TellsLookup}, Task.{TellsLine, Task, Work, making, reading, replay_task, serving}}
+use Rattle.amt_command.specs.{declared.{dns.Lookup.{Lookup}, pcap.CapturedRelay.{CapturedRelay}}, Dns.{IsLookup, TellsLookup}, Pcap.{IsCaptureCause, IsCapturedRelay, IsRelayCause, TellsCapture}, Task.{TellsLine, Task, Work, making, reading, replay_task, serving}}
 
 -- relay, gateway and pair scripts, each with the text of its run, and relay scripts with what the relay's own network
 -- has to hear besides
@@ -43,6 +44,24 @@ dns_task word = record {
   difference = λ lookup. None;
 }
 
+-- a capture, with the lines of the tunnel's datagrams in it
+abbrev pub capture_lines_task : Task Capture
+capture_lines_task = record {
+  Reads = λ capture bytes. IsCapture bytes capture;
+  HasFault = λ text bytes. TellsCapture (IsCaptureCause bytes) text;
+  text = capture_lines_text;
+  difference = λ capture. None;
+}
+
+-- a capture, with the script of the relay that the word names
+abbrev pub capture_script_task : List ℕ → Task CapturedRelay
+capture_script_task word = record {
+  Reads = IsCapturedRelay word;
+  HasFault = λ text bytes. TellsCapture (IsRelayCause word bytes) text;
+  text = λ captured. capture_script_text captured.relay captured.capture;
+  difference = λ captured. None;
+}
+
 -- what a command does
 abbrev pub work_of : Command → Work
 work_of (Replay Relay) = reading RelayScript relay_task
@@ -52,6 +71,8 @@ work_of (Replay Upstream) = reading RelayScript upstream_task
 work_of Dump = reading (List ℕ) dump_task
 work_of Vectors = reading SuiteReport vectors_task
 work_of (Dns source) = reading Lookup (dns_task source)
+work_of (Pcap None) = reading Capture capture_lines_task
+work_of (Pcap (Some relay)) = reading CapturedRelay (capture_script_task relay)
 work_of (Load seed count) = making (load_text (summary_of (load_script_of seed count)))
 work_of (RelayServing file turns workers) = serving
 work_of (GatewayServing file turns) = serving

@@ -2,6 +2,7 @@ pub mod Command
 pub mod Dns
 pub mod Ending
 pub mod Exit
+pub mod Pcap
 pub mod Running
 pub mod Serving
 pub mod Status

@@ -6,6 +6,7 @@ ghost use Rattle.amt_dns_names.specs.Reverse.{reverse_labels};
 ghost use Rattle.amt_dns.specs.{Answer.{IsAnswer}, Texts.{fault_text}};
 ghost use Rattle.amt_command.specs.{Command.{dns_task}, Dns.{GivesAnswer, IsAnswerLine}, Task.{IsErrorBy}};
 
+use crate::fault::told;
 use crate::task::{HasTask, TaskFault};
 use crate::writing::write_text;
 use amt_dns::{DnsFault, FoundList, print_answer, print_fault, read_answer};
@@ -30,42 +31,17 @@ pub struct DnsTask<'a> {
     pub source: Word<'a>,
 }
 
-fn print_cause(alloc: Global, cause: &[u8]) -> Result<Bytes, AllocError>
-    ensures { IfOk result (λ text. text ≡ codes "dns: " ++ cause.now) }
-{
-    let mut text = Bytes::copied(alloc, b"dns: ")?;
-    text.append(cause)?;
-    Ok(text)
-}
-
-// The fault with this cause.
-fn told(alloc: Global, cause: &[u8]) -> TaskFault
-    ensures { (result ≡ TaskFault.Fault (codes "dns: " ++ cause.now)) ⊎ (result ≡ TaskFault.Memory) }
-{
-    match print_cause(alloc, cause) {
-        Ok(text) => TaskFault::Fault(text),
-        Err(_) => TaskFault::Memory,
-    }
-}
-
-fn print_answer_fault(alloc: Global, fault: &DnsFault) -> Result<Bytes, AllocError>
-    ensures { IfOk result (λ text. text ≡ codes "dns: " ++ fault_text fault.now) }
-{
-    let cause = print_fault(alloc, fault)?;
-    print_cause(alloc, cause.as_slice())
-}
-
 // The fault of octets that are no answer.
 fn answer_fault(alloc: Global, fault: &DnsFault) -> TaskFault
     ensures { ((fault.now ≢ DnsFault.Memory) × (result ≡ TaskFault.Fault (codes "dns: " ++ fault_text fault.now)))
         ⊎ (result ≡ TaskFault.Memory) }
 {
-    let Ok(text) = print_answer_fault(alloc, fault) else {
+    let Ok(cause) = print_fault(alloc, fault) else {
         return TaskFault::Memory;
     };
     match fault {
         DnsFault::Memory => TaskFault::Memory,
-        _ => TaskFault::Fault(text),
+        _ => told(alloc, b"dns: ", cause.as_slice()),
     }
 }
 
@@ -104,11 +80,11 @@ fn read_line(alloc: Global, source: &Ip, bytes: &[u8]) -> Result<FoundList, Task
 {
     let datagrams = match read_datagrams(alloc, bytes) {
         Ok(datagrams) => datagrams,
-        Err(ScriptError::Fault { .. }) => return Err(told(alloc, b"input")),
+        Err(ScriptError::Fault { .. }) => return Err(told(alloc, b"dns: ", b"input")),
         Err(ScriptError::Memory) => return Err(TaskFault::Memory),
     };
     let Some(octets) = only_one(datagrams.as_slice()) else {
-        return Err(told(alloc, b"input"));
+        return Err(told(alloc, b"dns: ", b"input"));
     };
     read_octets(alloc, source, octets.as_slice())
 }
@@ -124,7 +100,7 @@ impl<'a> HasTask for DnsTask<'a> {
 
     fn read(&self, alloc: Global, bytes: &[u8]) -> Result<Lookup, TaskFault> {
         let Some(source) = parse_ip(self.source.as_str().as_bytes()) else {
-            return Err(told(alloc, b"source"));
+            return Err(told(alloc, b"dns: ", b"source"));
         };
         if bytes.is_empty() {
             return Ok(Lookup {

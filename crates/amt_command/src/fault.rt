@@ -1,7 +1,7 @@
 //! Why an input can't be read, or isn't as it should be, as the line on standard error says it. It knows no kind of
 //! input.
 
-ghost use Rattle.std.specs.Prelude.{◌≡◌, ◌⊎◌, IfOk};
+ghost use Rattle.std.specs.Prelude.{◌≡◌, ◌⊎◌, ◌++◌, IfOk};
 ghost use Rattle.amt_command.specs.Task.{TellsError, line_text, told_line};
 
 use crate::ending::Ending;
@@ -26,6 +26,24 @@ pub fn line_fault(alloc: Global, error: ScriptError) -> TaskFault
         return TaskFault::Memory;
     };
     match print_line(alloc, line, reason) {
+        Ok(text) => TaskFault::Fault(text),
+        Err(_) => TaskFault::Memory,
+    }
+}
+
+fn print_cause(alloc: Global, prefix: &[u8], cause: &[u8]) -> Result<Bytes, AllocError>
+    ensures { IfOk result (λ text. text ≡ prefix.now ++ cause.now) }
+{
+    let mut text = Bytes::copied(alloc, prefix)?;
+    text.append(cause)?;
+    Ok(text)
+}
+
+/// The fault with this cause, after what the input is.
+pub fn told(alloc: Global, prefix: &[u8], cause: &[u8]) -> TaskFault
+    ensures { (result ≡ TaskFault.Fault (prefix.now ++ cause.now)) ⊎ (result ≡ TaskFault.Memory) }
+{
+    match print_cause(alloc, prefix, cause) {
         Ok(text) => TaskFault::Fault(text),
         Err(_) => TaskFault::Memory,
     }

@@ -11,6 +11,7 @@ mod ending;
 mod exit;
 mod fault;
 mod gateway;
+mod pcap;
 mod relay;
 mod running;
 mod scripts;

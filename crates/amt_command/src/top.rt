@@ -11,12 +11,13 @@ use crate::dns::DnsTask;
 use crate::ending::Ending;
 use crate::exit::Exit;
 use crate::gateway::serve_gateway_file;
+use crate::pcap::{CaptureLines, CaptureScript};
 use crate::relay::serve_relay_file;
 use crate::running::{run_task, write_load};
 use crate::scripts::{GatewayReplay, PairReplay, RelayReplay, UpstreamReplay};
 use crate::texts::{Dump, Vectors};
 use amt_ports::{Files, Sink, Source, write_all_own};
-use amt_words::{Command, Replayable, WordsFault, read_words};
+use amt_words::{Command, Replayable, Word, WordsFault, read_words};
 use serving_commands::Live;
 use std::alloc::Global;
 use std::sync::Wait;
@@ -38,6 +39,25 @@ fn replay<S: Source, O: Sink>(
         Replayable::Gateway => run_task(&GatewayReplay {}, alloc, input, out),
         Replayable::Pair => run_task(&PairReplay {}, alloc, input, out),
         Replayable::Upstream => run_task(&UpstreamReplay {}, alloc, input, out),
+    }
+}
+
+// The lines of a capture, or the script of the relay that is given.
+fn run_capture<S: Source, O: Sink>(
+    alloc: Global,
+    relay: Option<Word>,
+    input: &mut S,
+    out: &mut O,
+) -> Result<(), Ending>
+    ensures no_usage { IsErrOf result Ending.Usage → ⊥ }
+    ensures ends { EndsFor (work_of (CommandValue.Pcap relay.entry)) S.left S.faults O.written O.faults
+        input.old input.new out.old out.new result }
+    ensures devices { LeavesDevices S.left S.faults O.faults input.old input.new out.old out.new
+        result }
+{
+    match relay {
+        None => run_task(&CaptureLines {}, alloc, input, out),
+        Some(relay) => run_task(&CaptureScript { relay }, alloc, input, out),
     }
 }
 
@@ -65,6 +85,7 @@ fn run_command<S: Source, F: Files, O: Sink, V: Live>(
         Command::Dump => run_task(&Dump {}, alloc, input, out),
         Command::Vectors => run_task(&Vectors {}, alloc, input, out),
         Command::Dns { source } => run_task(&DnsTask { source }, alloc, input, out),
+        Command::Pcap { relay } => run_capture(alloc, relay, input, out),
         Command::Load { seed, count } => write_load(alloc, seed, count, input, out),
         Command::Relay {
             file,
