@@ -10,7 +10,7 @@ use amt_values::u16_at;
 // The type AMTRELAY, 260 (RFC 8777, section 4.1), and the class IN, 1 (RFC 1035, section 3.2.4).
 const RELAYS: [u8; 4] = [1, 4, 0, 1];
 
-/// The octets of a head (RFC 1035, section 4.1.1).
+// The octets of a head (RFC 1035, section 4.1.1).
 const HEAD: usize = 12;
 
 /// What is wrong with the head, if anything.
@@ -19,7 +19,7 @@ pub fn head_fault(bytes: &[u8], id: u16) -> Option<DnsFault>
     ensures { result ≡ first_holding (head_faults id bytes.now) }
 {
     if bytes.len() < HEAD {
-        return Some(DnsFault::Short(12, bytes.len() as u32));
+        return Some(DnsFault::Short(HEAD as u32, bytes.len() as u32));
     }
     let have = u16_at(bytes, 0);
     if have != id {

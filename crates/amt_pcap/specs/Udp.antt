@@ -16,7 +16,9 @@ abbrev pub udp_place6 : List ℕ → Option ℕ
 udp_place6 packet = if next_header packet == 17 then Some 40 else None
 
 abbrev pub udp_place : List ℕ → Option ℕ
-udp_place packet = if ip_version packet == 6 then udp_place6 packet else udp_place4 packet
+udp_place packet =
+    if ip_version packet == 6 then udp_place6 packet
+    else (if ip_version packet == 4 then udp_place4 packet else None)
 
 -- the length that the UDP header at the place states, itself included
 abbrev pub udp_length : List ℕ → ℕ → ℕ

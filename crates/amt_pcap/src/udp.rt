@@ -28,8 +28,12 @@ fn udp_place(packet: &[u8]) -> Option<usize>
     ensures most { IfSome result (λ place. place ≤ 60) }
     ensures six { IfSome result (λ place. ip_version packet.now ≡ 6 → place ≡ 40) }
 {
-    if packet[0] >> 4 == 6 {
+    let version = packet[0] >> 4;
+    if version == 6 {
         return if packet[6] == 17 { Some(40) } else { None };
+    }
+    if version != 4 {
+        return None;
     }
     let place = 4 * (packet[0] & 15) as usize;
     if packet[9] != 17 || u16_at(packet, 6) & 0x3fff != 0 || place < 20 {
