@@ -1,9 +1,9 @@
 -- Octets are one capture at most, and none where their head has a fault: the records are followed from the head on,
 -- and a whole one stands at a place or doesn't.
-use Rattle.std.proofs.Common.{◌≡◌, ℕ, ◌<◌, ◌≤◌, List, [], ◌∷◌, ◌++◌, length, sym, ap, subst, Option, Some, None, refl, arith, append_assoc, append-nil}
+use Rattle.std.proofs.Common.{◌≡◌, ℕ, ◌<◌, ◌≤◌, List, [], ◌∷◌, ◌++◌, length, sym, ap, subst, Some, refl, arith, append_assoc, append-nil}
 use Rattle.std.proofs.lemmas.Grind.{common_steps}
 use Rattle.amt_pcap.specs.declared.{capture.{Capture.{Capture}, CaptureFault.{CaptureFault}, Item.{Item}}, format.Format.{Format}}
-use Rattle.amt_pcap.specs.Capture.{AreRecords, IsCapture, IsHead, first_fault, format_of, item_at, magic_of, record_end}
+use Rattle.amt_pcap.specs.Capture.{AreRecords, IsCapture, first_fault, format_of, item_at, magic_of, record_end}
 
 -- the records from a place on, up to where no whole one follows
 data AreFrom (format : Format) (bytes : List ℕ) : ℕ → List Item → ℕ → Type 0 where
@@ -41,8 +41,5 @@ IsCapture-unique bytes one other first second =
     let tail : one.tail ≡ other.tail = omega (arith, same.1, first.whole, second.whole) in
     λ i. record { items = same.0 i; tail = tail i }
 
-no_fault : (bytes : List ℕ) (format : Format) (found : Option Format) (fault : CaptureFault) → IsHead bytes format → first_fault bytes ≡ Some fault → ⊥
-no_fault bytes format found fault head wrong = grind (arith, common_steps, head.magic)
-
 pub no_fault_of_capture : (bytes : List ℕ) (capture : Capture) (fault : CaptureFault) → IsCapture bytes capture → first_fault bytes ≡ Some fault → ⊥
-no_fault_of_capture bytes capture fault is wrong = no_fault bytes is.format None fault is.head wrong
+no_fault_of_capture bytes capture fault is wrong = grind (arith, common_steps, is.head.magic)

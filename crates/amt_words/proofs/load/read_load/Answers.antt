@@ -3,6 +3,11 @@ use Rattle.clap.specs.Words.{App, fault_of, found_of}
 use Rattle.amt_words.proofs.Reading.{given_number}
 use Rattle.amt_words.proofs.load.read_load.Goals as goal
 
+pub number-seed-requires : goal.number-seed-requires
+number-seed-requires c =
+    let numbers = c.in-Ok.ensures.numbers c.in-Ok-parse.found c.in-Ok-parse.ensures.parsed in
+    record { given = (0, 4294967295, omega arith, numbers.0) }
+
 pub number-count-requires : goal.number-count-requires
 number-count-requires c =
     let numbers = c.in-Ok.ensures.numbers c.in-Ok-parse.found c.in-Ok-parse.ensures.parsed in

@@ -1,4 +1,4 @@
-use Rattle.std.proofs.Common.{◌≡◌, map, string_bytes, inl, inr}
+use Rattle.std.proofs.Common.{map, string_bytes, inl, inr}
 use Rattle.amt_words.specs.{Line.{IsTakenBy}, Usage.{usages}}
 use Rattle.amt_words.proofs.words.read_named.Goals as goal
 

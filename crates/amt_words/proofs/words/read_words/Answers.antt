@@ -1,4 +1,4 @@
-use Rattle.std.proofs.Common.{◌≡◌, ◌∙◌, ◌∷◌, sym, ap, subst, map, string_bytes}
+use Rattle.std.proofs.Common.{◌∙◌, ◌∷◌, sym, ap, subst, map, string_bytes}
 use Rattle.amt_words.specs.Line.{IsAccepted, IsCommandLine}
 use Rattle.amt_words.proofs.Accepted.{accepted_taken, line_taken}
 use Rattle.amt_words.proofs.words.read_words.Goals as goal
