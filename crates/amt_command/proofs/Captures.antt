@@ -1,8 +1,9 @@
 -- An input is one capture at most, or has one fault.
-use Rattle.std.proofs.Common.{◌≡◌, ◌≢◌, ◌⊎◌, ℕ, List, ◌++◌, Some, codes, inl, inr, sym, subst, ap, ◌∙◌}
+use Rattle.std.proofs.Common.{◌≡◌, ◌≢◌, ◌⊎◌, ℕ, List, ◌++◌, Some, codes, inl, inr, refl, sym, subst, ap, ◌∙◌}
 use Rattle.amt_values.{specs.{declared.address.Ip.{Ip}, Text.{IsIpText}}, proofs.Unique.{IsIpText-unique}}
 use Rattle.amt_pcap.{specs.{declared.capture.{Capture.{Capture}, CaptureFault.{CaptureFault}}, Capture.{IsCapture, first_fault}}, proofs.Unique.{IsCapture-unique, no_fault_of_capture}}
-use Rattle.amt_command.specs.{declared.{pcap.CapturedRelay.{CapturedRelay}, task.TaskFault.{TaskFault}}, Command.{capture_lines_task, capture_script_task}, Pcap.{IsCaptureCause, IsCapturedRelay, IsRelayCause, TellsCapture, capture, fault, fault_word, relay}, Task.{IsErrorBy, Task}}
+use Rattle.amt_command.proofs.Faults.{told_by}
+use Rattle.amt_command.specs.{declared.{pcap.CapturedRelay.{CapturedRelay}, task.TaskFault.{TaskFault}}, Command.{capture_lines_task, capture_script_task}, Pcap.{IsCaptureCause, IsCapturedRelay, IsRelayCause, TellsCapture, capture, fault, fault_word, relay}, Task.{IsErrorBy}}
 use Rattle.amt_command.specs.declared.task.TaskFault.TheVariants as faults
 use Rattle.amt_pcap.specs.declared.capture.CaptureFault.TheVariants as causes
 
@@ -35,12 +36,6 @@ one_capture_cause bytes text text' = one_told (IsCaptureCause bytes) text text' 
 
 pub one_relay_cause : (word bytes text text' : List ℕ) → TellsCapture (IsRelayCause word bytes) text → TellsCapture (IsRelayCause word bytes) text' → text ≡ text'
 one_relay_cause word bytes text text' = one_told (IsRelayCause word bytes) text text' (same_cause word bytes)
-
--- a fault with this text is the task's, and so is that memory ran out
-told_by : {X : Type 0} (task : Task X) (bytes text : List ℕ) (fault : TaskFault) → (fault ≡ faults.Fault text) ⊎ (fault ≡ faults.Memory)
-    → ((value : X) → task.Reads value bytes → ⊥) → task.HasFault text bytes → IsErrorBy task bytes fault
-told_by task bytes text fault (inl is) none told = subst (IsErrorBy task bytes) (sym is) (none, told)
-told_by task bytes text fault (inr is) none told = subst (IsErrorBy task bytes) (sym is) tt
 
 -- the fault of a head
 pub capture_told : (bytes : List ℕ) (cause : CaptureFault) (error : TaskFault)

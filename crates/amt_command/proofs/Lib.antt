@@ -2,6 +2,7 @@ pub mod Answering
 pub mod Captures
 pub mod Commands
 pub mod Endings
+pub mod Faults
 pub mod Lines
 pub mod Lookups
 pub mod Shown

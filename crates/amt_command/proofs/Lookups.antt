@@ -5,6 +5,7 @@ use Rattle.script_lines.{specs.{Lines.{lines_that_say}, Script.{Say, Spells}}, p
 use Rattle.amt_dump.{proofs.Lawful.{dump_kind_lawful}, specs.Lines.{dump_kind}}
 use Rattle.amt_dns_names.specs.Reverse.{reverse_labels}
 use Rattle.amt_dns.{specs.{declared.{fault.DnsFault.{DnsFault}, found.Found.{Found}}, Answer.{IsAnswer}, Fault.{IsFirstFault}, Texts.{fault_text}}, proofs.Unique.{IsAnswer-unique, IsFirstFault-unique, no_fault_of_answer}}
+use Rattle.amt_command.proofs.Faults.{told_by}
 use Rattle.amt_command.specs.{declared.{dns.Lookup.{Lookup}, task.TaskFault.{TaskFault}}, Command.{dns_task}, Dns.{GivesAnswer, IsAnswerLine, IsLookup, IsLookupFault, TellsLookup, answer, input, source}, Task.{IsErrorBy}}
 use Rattle.amt_command.specs.declared.task.TaskFault.TheVariants as faults
 use Rattle.amt_dns.specs.declared.fault.DnsFault.TheVariants as causes
@@ -91,19 +92,10 @@ pub one_cause : (word bytes text text' : List ℕ) → TellsLookup word text byt
 one_cause word bytes text text' h k = h.2 ∙ (ap (λ (cause : List ℕ). codes "dns: " ++ cause) (same_cause bytes word h.0 k.0 h.1 k.1) ∙ sym k.2)
 
 -- a fault that gives the cause is the task's
-told_by : (word bytes cause : List ℕ) (fault : TaskFault) → fault ≡ faults.Fault (codes "dns: " ++ cause) → IsLookupFault word bytes cause
-    → IsErrorBy (dns_task word) bytes fault
-told_by word bytes cause fault is at =
-    subst (IsErrorBy (dns_task word) bytes) (sym is) (λ lookup reads. not_both bytes word lookup cause reads at, (cause, at, refl))
-
-memory_told : (word bytes : List ℕ) (fault : TaskFault) → fault ≡ faults.Memory → IsErrorBy (dns_task word) bytes fault
-memory_told word bytes fault is = subst (IsErrorBy (dns_task word) bytes) (sym is) tt
-
--- and so is that memory ran out
 pub fault_told : (word bytes cause : List ℕ) (fault : TaskFault) → (fault ≡ faults.Fault (codes "dns: " ++ cause)) ⊎ (fault ≡ faults.Memory)
     → IsLookupFault word bytes cause → IsErrorBy (dns_task word) bytes fault
-fault_told word bytes cause fault (inl is) at = told_by word bytes cause fault is at
-fault_told word bytes cause fault (inr is) at = memory_told word bytes fault is
+fault_told word bytes cause fault told at =
+    told_by (dns_task word) bytes (codes "dns: " ++ cause) fault told (λ lookup reads. not_both bytes word lookup cause reads at) (cause, at, refl)
 
 -- the fault of the octets of the line
 pub answer_told : (word bytes octets : List ℕ) (ip : Ip) (cause : DnsFault) (fault : TaskFault)
@@ -111,5 +103,5 @@ pub answer_told : (word bytes octets : List ℕ) (ip : Ip) (cause : DnsFault) (f
     → (cause ≢ causes.Memory → IsFirstFault 0 (reverse_labels ip) octets cause) → IsIpText ip word → IsAnswerLine octets bytes
     → IsErrorBy (dns_task word) bytes fault
 answer_told word bytes octets ip cause fault (inl told) first names line =
-    told_by word bytes (fault_text cause) fault told.1 (answer ip octets cause names line (first told.0))
-answer_told word bytes octets ip cause fault (inr is) first names line = memory_told word bytes fault is
+    fault_told word bytes (fault_text cause) fault (inl told.1) (answer ip octets cause names line (first told.0))
+answer_told word bytes octets ip cause fault (inr is) first names line = subst (IsErrorBy (dns_task word) bytes) (sym is) tt
