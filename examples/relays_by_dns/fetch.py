@@ -1,6 +1,6 @@
 """Sends the query that `amt dns` wrote to a resolver, and prints the answer as one line of hexadecimal digits.
 
-usage: amt dns SOURCE | python3 fetch.py RESOLVER [PORT]
+usage: amt dns SOURCE < /dev/null | python3 fetch.py RESOLVER [PORT]
 
 It asks over UDP, and over TCP where the answer was cut.
 """
