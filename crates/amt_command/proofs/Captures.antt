@@ -1,7 +1,7 @@
 -- An input is one capture at most, or has one fault.
 use Rattle.std.proofs.Common.{◌≡◌, ◌≢◌, ◌⊎◌, ℕ, List, ◌++◌, Some, codes, inl, inr, refl, sym, subst, ap, ◌∙◌}
 use Rattle.amt_values.{specs.{declared.address.Ip.{Ip}, Text.{IsIpText}}, proofs.Unique.{IsIpText-unique}}
-use Rattle.amt_pcap.{specs.{declared.capture.{Capture.{Capture}, CaptureFault.{CaptureFault}}, Capture.{IsCapture, first_fault}}, proofs.Unique.{IsCapture-unique, no_fault_of_capture}}
+use Rattle.amt_pcap.{specs.{declared.capture.{Capture.{Capture}, CaptureFault.{CaptureFault}}, Capture.{first_fault}}, proofs.Unique.{IsCapture-unique, no_fault_of_capture}}
 use Rattle.amt_command.proofs.Faults.{told_by}
 use Rattle.amt_command.specs.{declared.{pcap.CapturedRelay.{CapturedRelay}, task.TaskFault.{TaskFault}}, Command.{capture_lines_task, capture_script_task}, Pcap.{IsCaptureCause, IsCapturedRelay, IsRelayCause, TellsCapture, capture, fault, fault_word, relay}, Task.{IsErrorBy}}
 use Rattle.amt_command.specs.declared.task.TaskFault.TheVariants as faults
