@@ -1,4 +1,4 @@
--- What `dns SOURCE` makes of its input: the query for the source's relays, and what an answer to it tells.
+-- What `dns SOURCE` makes of its input: the query for the source's relays, and what an answer to it says.
 use Rattle.std.specs.Prelude.{◌≡◌, ◌≢◌, ℕ, List, [], ◌∷◌, ◌++◌, Option, Some, None, codes}
 use Rattle.amt_values.specs.{declared.address.Ip.{Ip}, Text.{IsIpText}}
 use Rattle.script_lines.specs.Script.{Spells}
@@ -11,7 +11,7 @@ use Rattle.amt_command.specs.declared.dns.Lookup.{Lookup}
 abbrev pub IsAnswerLine : List ℕ → List ℕ → Type 0
 IsAnswerLine octets bytes = Spells dump_kind (octets ∷ []) bytes
 
--- an input without an octet asks for the query alone; of an answer to the query with the id 0, the relays that it tells
+-- an input without an octet asks for the query alone; of an answer to the query with the id 0, the relays that it lists
 abbrev pub GivesAnswer : Ip → Option (List Found) → List ℕ → Type 0
 GivesAnswer source None bytes = bytes ≡ []
 GivesAnswer source (Some found) bytes =

@@ -72,8 +72,8 @@ pub record BeginsToWrite {X : Type 0} (task : Task X) (left left' written writte
   pub text : WritesPrefix written written' (task.text value)
 
 -- `amt: ` and a text
-abbrev pub told_line : List ℕ → List ℕ
-told_line text = codes "amt: " ++ (text ++ (10 ∷ []))
+abbrev pub error_line : List ℕ → List ℕ
+error_line text = codes "amt: " ++ (text ++ (10 ∷ []))
 
 -- the input was read to its end, within its limit, and can't be read as any value; the text says why
 pub record IsFaultText {X : Type 0} (task : Task X) (left left' : Option (List ℕ)) (text : List ℕ) : Type 0 where
@@ -83,7 +83,7 @@ pub record IsFaultText {X : Type 0} (task : Task X) (left left' : Option (List �
   pub nothing : (value : X) → task.Reads value bytes → ⊥
   pub told : List ℕ
   pub fault : task.HasFault told bytes
-  pub text_is : text ≡ told_line told
+  pub text_is : text ≡ error_line told
 
 -- the input was read to its end and isn't as it should be; the text gives the difference
 pub record IsDifferenceText {X : Type 0} (task : Task X) (left left' : Option (List ℕ)) (text : List ℕ) : Type 0 where
@@ -91,7 +91,7 @@ pub record IsDifferenceText {X : Type 0} (task : Task X) (left left' : Option (L
   pub input : IsInput task left left' value
   pub difference : List ℕ
   pub differs : task.difference value ≡ Some difference
-  pub text_is : text ≡ told_line difference
+  pub text_is : text ≡ error_line difference
 
 -- octets are read as one value at most, and have one fault at most
 abbrev pub HasOneValue : Work → Type 0

@@ -1,4 +1,4 @@
-//! The relays of a source are asked for: its query is told, and what an answer tells. It knows no device.
+//! The relays of a source are asked for: its query is printed, and what an answer says. It knows no device.
 
 ghost use Rattle.std.specs.Prelude.{◌≡◌, ◌≢◌, ◌⊎◌, ℕ, ◌≤◌, ◌^◌, List, [], ◌∷◌, ◌++◌, length, codes, Some, IfErr, IfNone, IfOk, IfSome};
 ghost use Rattle.amt_values.specs.Text.{IsIpText};
@@ -6,7 +6,7 @@ ghost use Rattle.amt_dns_names.specs.Reverse.{reverse_labels};
 ghost use Rattle.amt_dns.specs.{Answer.{IsAnswer}, Texts.{fault_text}};
 ghost use Rattle.amt_command.specs.{Command.{dns_task}, Dns.{GivesAnswer, IsAnswerLine}, Task.{IsErrorBy}};
 
-use crate::fault::told;
+use crate::fault::prefixed_fault;
 use crate::task::{HasTask, TaskFault};
 use crate::writing::write_text;
 use amt_dns::{DnsFault, FoundList, print_answer, print_fault, read_answer};
@@ -18,7 +18,7 @@ use amt_words::Word;
 use script_lines::{RunFault, ScriptError};
 use std::alloc::{AllocError, Global};
 
-/// A source, and the relays that an answer tells of it, where the input has one.
+/// A source, and the relays that an answer lists for it, where the input has one.
 #[derive(Drop)]
 pub struct Lookup {
     source: Ip,
@@ -41,7 +41,7 @@ fn answer_fault(alloc: Global, fault: &DnsFault) -> TaskFault
     };
     match fault {
         DnsFault::Memory => TaskFault::Memory,
-        _ => told(alloc, b"dns: ", cause.as_slice()),
+        _ => prefixed_fault(alloc, b"dns: ", cause.as_slice()),
     }
 }
 
@@ -80,11 +80,11 @@ fn read_line(alloc: Global, source: &Ip, bytes: &[u8]) -> Result<FoundList, Task
 {
     let datagrams = match read_datagrams(alloc, bytes) {
         Ok(datagrams) => datagrams,
-        Err(ScriptError::Fault { .. }) => return Err(told(alloc, b"dns: ", b"input")),
+        Err(ScriptError::Fault { .. }) => return Err(prefixed_fault(alloc, b"dns: ", b"input")),
         Err(ScriptError::Memory) => return Err(TaskFault::Memory),
     };
     let Some(octets) = only_one(datagrams.as_slice()) else {
-        return Err(told(alloc, b"dns: ", b"input"));
+        return Err(prefixed_fault(alloc, b"dns: ", b"input"));
     };
     read_octets(alloc, source, octets.as_slice())
 }
@@ -100,7 +100,7 @@ impl<'a> HasTask for DnsTask<'a> {
 
     fn read(&self, alloc: Global, bytes: &[u8]) -> Result<Lookup, TaskFault> {
         let Some(source) = parse_ip(self.source.as_str().as_bytes()) else {
-            return Err(told(alloc, b"dns: ", b"source"));
+            return Err(prefixed_fault(alloc, b"dns: ", b"source"));
         };
         if bytes.is_empty() {
             return Ok(Lookup {

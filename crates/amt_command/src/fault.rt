@@ -2,7 +2,7 @@
 //! input.
 
 ghost use Rattle.std.specs.Prelude.{◌≡◌, ◌⊎◌, ◌++◌, IfOk};
-ghost use Rattle.amt_command.specs.Task.{TellsError, line_text, told_line};
+ghost use Rattle.amt_command.specs.Task.{TellsError, line_text, error_line};
 
 use crate::ending::Ending;
 use crate::task::TaskFault;
@@ -40,7 +40,7 @@ fn print_cause(alloc: Global, prefix: &[u8], cause: &[u8]) -> Result<Bytes, Allo
 }
 
 /// The fault with this cause, after what the input is.
-pub fn told(alloc: Global, prefix: &[u8], cause: &[u8]) -> TaskFault
+pub fn prefixed_fault(alloc: Global, prefix: &[u8], cause: &[u8]) -> TaskFault
     ensures { (result ≡ TaskFault.Fault (prefix.now ++ cause.now)) ⊎ (result ≡ TaskFault.Memory) }
 {
     match print_cause(alloc, prefix, cause) {
@@ -49,8 +49,8 @@ pub fn told(alloc: Global, prefix: &[u8], cause: &[u8]) -> TaskFault
     }
 }
 
-fn print_told(alloc: Global, text: &[u8]) -> Result<Bytes, AllocError>
-    ensures { IfOk result (λ line. line ≡ told_line text.now) }
+fn print_error_line(alloc: Global, text: &[u8]) -> Result<Bytes, AllocError>
+    ensures { IfOk result (λ line. line ≡ error_line text.now) }
 {
     let mut line = Bytes::copied(alloc, b"amt: ")?;
     line.append(text)?;
@@ -60,9 +60,9 @@ fn print_told(alloc: Global, text: &[u8]) -> Result<Bytes, AllocError>
 
 /// The ending of a run over an input with this fault.
 pub fn ending_of_fault(alloc: Global, text: &[u8]) -> Ending
-    ensures { (result ≡ Ending.Fault (told_line text.now)) ⊎ (result ≡ Ending.Memory) }
+    ensures { (result ≡ Ending.Fault (error_line text.now)) ⊎ (result ≡ Ending.Memory) }
 {
-    match print_told(alloc, text) {
+    match print_error_line(alloc, text) {
         Ok(line) => Ending::Fault(line),
         Err(_) => Ending::Memory,
     }
@@ -70,9 +70,9 @@ pub fn ending_of_fault(alloc: Global, text: &[u8]) -> Ending
 
 /// The ending of a run over an input with this difference.
 pub fn ending_of_difference(alloc: Global, difference: &[u8]) -> Ending
-    ensures { (result ≡ Ending.Difference (told_line difference.now)) ⊎ (result ≡ Ending.Memory) }
+    ensures { (result ≡ Ending.Difference (error_line difference.now)) ⊎ (result ≡ Ending.Memory) }
 {
-    match print_told(alloc, difference) {
+    match print_error_line(alloc, difference) {
         Ok(line) => Ending::Difference(line),
         Err(_) => Ending::Memory,
     }

@@ -5,7 +5,7 @@ ghost use Rattle.std.specs.Prelude.{◌≡◌, ◌≢◌, ◌⊎◌, ◌≤◌, 
 ghost use Rattle.amt_pcap.specs.{declared.capture.CaptureFault.{CaptureFault as CaptureFaultValue}, Capture.{IsCapture}, Texts.{HasShortPackets}};
 ghost use Rattle.amt_command.specs.{Command.{capture_lines_task, capture_script_task}, Pcap.{fault_word}, Task.{IsErrorBy}};
 
-use crate::fault::told;
+use crate::fault::prefixed_fault;
 use crate::task::{HasTask, TaskFault};
 use crate::writing::write_text;
 use amt_pcap::{Capture, CaptureFault, capture_lines, capture_script, read_capture};
@@ -52,7 +52,7 @@ fn capture_fault(alloc: Global, fault: CaptureFault) -> TaskFault
 {
     match fault {
         CaptureFault::Memory => TaskFault::Memory,
-        _ => told(alloc, b"capture: ", fault_word(fault).as_bytes()),
+        _ => prefixed_fault(alloc, b"capture: ", fault_word(fault).as_bytes()),
     }
 }
 
@@ -111,7 +111,7 @@ impl<'a> HasTask for CaptureScript<'a> {
     // The word is judged before the octets.
     fn read(&self, alloc: Global, bytes: &[u8]) -> Result<CapturedRelay, TaskFault> {
         let Some(relay) = parse_ip(self.relay.as_str().as_bytes()) else {
-            return Err(told(alloc, b"capture: ", b"relay"));
+            return Err(prefixed_fault(alloc, b"capture: ", b"relay"));
         };
         match read_octets(alloc, bytes) {
             Ok(capture) => Ok(CapturedRelay { relay, capture }),

@@ -4,7 +4,7 @@ ghost use Rattle.std.specs.Prelude.{◌≡◌, ◌⊎◌, ℕ, ◌≤◌, List, 
 ghost use Rattle.amt_ports.specs.{Causes.{Rose}, Reading.{TakesAtMost, TakesMore}};
 ghost use Rattle.amt_values.specs.declared.bytes.TheConstants.{INPUT_LIMIT};
 ghost use Rattle.relay_load.specs.{Counts.{summary_of}, Script.{load_script_of}, Texts.{load_text}};
-ghost use Rattle.amt_command.specs.{Task.{IsInput, making, reading, told_line}, Ending.{EndsFor, LeavesDevices, TellsWhy}};
+ghost use Rattle.amt_command.specs.{Task.{IsInput, making, reading, error_line}, Ending.{EndsFor, LeavesDevices, TellsWhy}};
 
 use crate::ending::Ending;
 use crate::fault::{ending_of_difference, ending_of_fault};
@@ -54,7 +54,7 @@ fn check_value<T: HasTask>(task: &T, alloc: Global, value: &T::Value) -> Result<
     ensures agrees { OnOk result ((T.task task.now).difference value.now ≡ None) }
     ensures differs { IfErr result (λ ending. (ending ≡ Ending.Memory)
         ⊎ ((difference : List ℕ) × ((T.task task.now).difference value.now ≡ Some difference)
-        × (ending ≡ Ending.Difference (told_line difference)))) }
+        × (ending ≡ Ending.Difference (error_line difference)))) }
 {
     match task.difference(alloc, value) {
         Ok(None) => Ok(()),

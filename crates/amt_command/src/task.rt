@@ -13,7 +13,7 @@ use std::alloc::{AllocError, Global};
 /// Why the input isn't read as what a command reads.
 #[derive(Debug, Drop)]
 pub enum TaskFault {
-    /// What the line on standard error says behind `amt: `.
+    /// What the line on standard error says after `amt: `.
     Fault(Bytes),
     Memory,
 }

@@ -1,6 +1,6 @@
 -- The one of a list that is taken: by its place, and as a function.
 use Rattle.std.{proofs.{Common.{◌≡◌, ℕ, ◌+◌, ◌<◌, ◌≤◌, List, [], ◌∷◌, ◌++◌, length, get_or, take, drop, Option, None, Some, refl, ap, sym, ◌∙◌, arith}, Math.Seq.{get_or-append_seam}, lemmas.{List.{take-append-drop, drop_more, length-take-le, length-drop, get_or_default, get_or-take, get_or-drop, Elements.{All-head, All-tail}}, Bool.Decides.{nat_tests}}}, specs.{List.{All}, Prelude.{IfSome}}}
-use Rattle.amt_dns.specs.{declared.found.Found.{Found}, Choice.{IsChosen, chosen_of, taken_of}}
+use Rattle.amt_dns.specs.{declared.found.Found.{Found}, Choice.{IsChosen, chosen_of, better_of}}
 
 -- none has a lower precedence, and each of those before has a greater one
 pub chosen_at : (found : List Found) (place : ℕ) → place < length found
@@ -28,7 +28,7 @@ chosen_at (one ∷ more) place within first least =
 abbrev AtLeast : ℕ → Found → Type 0
 AtLeast limit one = limit ≤ one.precedence
 
-taken_at_least : (limit : ℕ) (one : Found) (rest : Option Found) → AtLeast limit one → IfSome rest (AtLeast limit) → AtLeast limit (taken_of one rest)
+taken_at_least : (limit : ℕ) (one : Found) (rest : Option Found) → AtLeast limit one → IfSome rest (AtLeast limit) → AtLeast limit (better_of one rest)
 taken_at_least limit one None own rest = own
 taken_at_least limit one (Some other) own rest = grind (arith, nat_tests)
 
@@ -38,7 +38,7 @@ all_at_least limit (one ∷ more) each =
     taken_at_least limit one (chosen_of more) (All-head (AtLeast limit) one more each)
     (all_at_least limit more (All-tail (AtLeast limit) one more each))
 
-first_taken : (one : Found) (rest : Option Found) → IfSome rest (AtLeast one.precedence) → taken_of one rest ≡ one
+first_taken : (one : Found) (rest : Option Found) → IfSome rest (AtLeast one.precedence) → better_of one rest ≡ one
 first_taken one None above = refl
 first_taken one (Some other) above = grind (arith, nat_tests)
 

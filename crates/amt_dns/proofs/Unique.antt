@@ -3,7 +3,7 @@ use Rattle.std.proofs.lemmas.Bool.{cases_lt}
 use Rattle.std.proofs.Common.{◌≡◌, ℕ, ◌+◌, ◌<◌, ◌≤◌, List, [], ◌∷◌, length, inl, inr, refl, sym, ap, subst, ◌∙◌, Some, arith}
 use Rattle.amt_values.specs.{Conditions.{first_holding}, declared.address.Ip.TheVariants.{V4, V6}}
 use Rattle.amt_dns_names.{specs.NameAt.{HasNoNameAt, NameAt}, proofs.OneName.{NameAt-unique}}
-use Rattle.amt_dns.specs.{declared.{fault.DnsFault.{DnsFault, TheVariants.{Name, Record}}, found.{Found.{Found}, Relay.{Relay}}}, Answer.{AreRecords, IsAnswer, IsHead, IsOfRelays, IsQuestion, IsRecord, IsRelay, Says, Tells, answer_count, data_end, data_place, relay_length, relay_type}, Fault.{IsDataFault, IsFaultAmong, IsFirstFault, IsQuestionFault, IsRecordFault, head_faults}}
+use Rattle.amt_dns.specs.{declared.{fault.DnsFault.{DnsFault, TheVariants.{Name, Record}}, found.{Found.{Found}, Relay.{Relay}}}, Answer.{AreRecords, IsAnswer, IsHead, IsOfRelays, IsQuestion, IsRecord, IsRelay, Says, IsRelayData, answer_count, data_end, data_place, relay_length, relay_type}, Fault.{IsDataFault, IsFaultAmong, IsFirstFault, IsQuestionFault, IsRecordFault, head_faults}}
 use Rattle.amt_dns.specs.declared.found.Relay.TheVariants as relays
 
 -- one question has one end, and no fault or one
@@ -57,19 +57,19 @@ relay_named bytes kind at end relays.None is named = absurd (omega arith)
 relay_named bytes kind at end (relays.At (V4 _)) is named = absurd (omega arith)
 relay_named bytes kind at end (relays.At (V6 _)) is named = absurd (omega arith)
 
--- data tell one thing, and have no fault or one
-tells_same : (bytes : List ℕ) (begin end : ℕ) (one other : Found) → Tells bytes begin end one → Tells bytes begin end other → one ≡ other
+-- data have one relay, or one fault
+tells_same : (bytes : List ℕ) (begin end : ℕ) (one other : Found) → IsRelayData bytes begin end one → IsRelayData bytes begin end other → one ≡ other
 tells_same bytes begin end one other first second =
     let precedence = first.precedence ∙ sym second.precedence in
     let direct = first.direct ∙ sym second.direct in
     let relay = relay_same bytes (relay_type bytes begin) (begin + 2) end one.relay other.relay first.relay second.relay in
     λ i. record { precedence = precedence i; direct = direct i; relay = relay i }
 
-known_kind : (bytes : List ℕ) (begin end : ℕ) (found : Found) → Tells bytes begin end found → 3 < relay_type bytes begin → ⊥
+known_kind : (bytes : List ℕ) (begin end : ℕ) (found : Found) → IsRelayData bytes begin end found → 3 < relay_type bytes begin → ⊥
 known_kind bytes begin end found tells above =
     omega (arith, relay_known bytes (relay_type bytes begin) (begin + 2) end found.relay tells.relay)
 
-no_data_fault : (bytes : List ℕ) (number begin end : ℕ) (found : Found) (fault : DnsFault) → Tells bytes begin end found
+no_data_fault : (bytes : List ℕ) (number begin end : ℕ) (found : Found) (fault : DnsFault) → IsRelayData bytes begin end found
     → IsDataFault bytes number begin end fault → ⊥
 no_data_fault bytes number begin end found fault tells (IsDataFault.short few) = omega (arith, tells.head)
 no_data_fault bytes number begin end found fault tells (IsDataFault.other_length _ low not) =

@@ -1,4 +1,4 @@
--- Which octets answer the query for a name's relays, and which relays they tell (RFC 1035, section 4.1;
+-- Which octets answer the query for a name's relays, and which relays they list (RFC 1035, section 4.1;
 -- RFC 8777, section 4.2).
 use Rattle.std.specs.{Prelude.{◌≡◌, ℕ, ◌+◌, ◌/◌, ◌%◌, ◌^◌, ◌≤◌, ◌<◌, ◌==◌, if◌then◌else◌, List, [], ◌∷◌, ◌++◌, length, map, take, drop, slice_index}, Str.{str_to_ascii_lowercase}}
 use Rattle.byteorder.specs.Endian.{big_number}
@@ -43,12 +43,12 @@ abbrev pub IsOfRelays : List ℕ → ℕ → Type 0
 IsOfRelays bytes at = take 4 (drop at bytes) ≡ words (260 ∷ 1 ∷ [])
 
 -- what was read asks for the relays of the name: its labels, with ASCII letters in either case (section 2.3.3), and
--- behind them the type and the class
+-- after them the type and the class
 pub record AsksFor (name : List (List ℕ)) (bytes : List ℕ) (labels : List (List ℕ)) (behind : ℕ) : Type 0 where
   pub alike : map str_to_ascii_lowercase labels ≡ map str_to_ascii_lowercase name
   pub of_relays : IsOfRelays bytes behind
 
--- the question, behind the head, asks for the relays of the name, and ends at this place (section 4.1.2)
+-- the question, after the head, asks for the relays of the name, and ends at this place (section 4.1.2)
 pub record IsQuestion (name : List (List ℕ)) (bytes : List ℕ) (end : ℕ) : Type 0 where
   pub labels : List (List ℕ)
   pub behind : ℕ
@@ -56,7 +56,7 @@ pub record IsQuestion (name : List (List ℕ)) (bytes : List ℕ) (end : ℕ) : 
   pub asks : AsksFor name bytes labels behind
   pub ends : end ≡ behind + 4
 
--- the data of a resource record begin 10 octets behind its owner's name: the type, the class, the time to live and
+-- the data of a resource record begin 10 octets after its owner's name: the type, the class, the time to live and
 -- the length of the data stand before them (section 4.1.3)
 abbrev pub data_place : ℕ → ℕ
 data_place behind = behind + 10
@@ -81,21 +81,21 @@ IsRelay bytes kind at end (relays.At (V4 number)) = (kind ≡ 1) × (end ≡ at 
 IsRelay bytes kind at end (relays.At (V6 number)) = (kind ≡ 2) × (end ≡ at + 16) × (number ≡ big_number 16 (drop at bytes))
 IsRelay bytes kind at end (relays.Named labels) = (kind ≡ 3) × NameAt bytes at labels end
 
--- the data between the places tell this: an octet of precedence (section 4.2.1), an octet whose high bit allows
+-- the data between the places are of this relay: an octet of precedence (section 4.2.1), an octet whose high bit allows
 -- a Request without a discovery (section 4.2.2) and whose other bits are the relay's type, and the relay
-pub record Tells (bytes : List ℕ) (begin end : ℕ) (found : Found) : Type 0 where
+pub record IsRelayData (bytes : List ℕ) (begin end : ℕ) (found : Found) : Type 0 where
   pub head : begin + 2 ≤ end
   pub precedence : found.precedence ≡ slice_index bytes begin
   pub direct : found.direct ≡ (slice_index bytes (begin + 1) / 2 ^ 7 == 1)
   pub relay : IsRelay bytes (relay_type bytes begin) (begin + 2) end found.relay
 
--- what a record says that has its fields behind this place: of another type or class nothing, of a relay of another
--- type nothing, or the relay that its data tell
+-- what a record says that has its fields from this place on: of another type or class nothing, of a relay of another
+-- type nothing, or the relay in its data
 pub data Says (bytes : List ℕ) (behind : ℕ) : List Found → Type 0 where
   other : (IsOfRelays bytes behind → ⊥) → Says bytes behind []
   unknown : IsOfRelays bytes behind → data_place behind + 2 ≤ data_end bytes behind
       → 3 < relay_type bytes (data_place behind) → Says bytes behind []
-  relay : (found : Found) → IsOfRelays bytes behind → Tells bytes (data_place behind) (data_end bytes behind) found
+  relay : (found : Found) → IsOfRelays bytes behind → IsRelayData bytes (data_place behind) (data_end bytes behind) found
       → Says bytes behind (found ∷ [])
 
 -- a resource record stands at the place, says this, and ends there: its owner's name, which may be any, and its
@@ -108,7 +108,7 @@ pub record IsRecord (bytes : List ℕ) (at : ℕ) (found : List Found) (end : �
   pub ends : end ≡ data_end bytes behind
   pub whole : end ≤ length bytes
 
--- so many records stand from the first place on, up to the last one, and say this together
+-- that many records stand from the first place on, up to the last one, and say this together
 pub data AreRecords (bytes : List ℕ) (start : ℕ) : ℕ → List Found → ℕ → Type 0 where
   none : AreRecords bytes start 0 [] start
   more : (count at end : ℕ) (found last : List Found) → AreRecords bytes start count found at

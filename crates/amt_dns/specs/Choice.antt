@@ -13,11 +13,11 @@ pub record IsChosen (found : List Found) (place : ℕ) (chosen : Found) : Type 0
   pub least : All (λ other. chosen.precedence ≤ other.precedence) after
 
 -- the one of two that is taken, of which the first stands before the other
-abbrev pub taken_of : Found → Option Found → Found
-taken_of one None = one
-taken_of one (Some other) = if nat_lt other.precedence one.precedence then other else one
+abbrev pub better_of : Found → Option Found → Found
+better_of one None = one
+better_of one (Some other) = if nat_lt other.precedence one.precedence then other else one
 
 -- the one that is taken, if there is any
 abbrev pub chosen_of : List Found → Option Found
 chosen_of [] = None
-chosen_of (one ∷ more) = Some (taken_of one (chosen_of more))
+chosen_of (one ∷ more) = Some (better_of one (chosen_of more))

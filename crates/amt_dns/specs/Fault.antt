@@ -14,7 +14,7 @@ head_faults id bytes =
     ∷ (not (response_code bytes == 0), Code (response_code bytes))
     ∷ (not (question_count bytes == 1), Questions (question_count bytes)) ∷ []
 
--- behind the head no name stands, or what stands there asks for something else or isn't whole
+-- after the head no name stands, or what stands there asks for something else or isn't whole
 pub data IsQuestionFault (name : List (List ℕ)) (bytes : List ℕ) : DnsFault → Type 0 where
   no_name : HasNoNameAt bytes 12 → IsQuestionFault name bytes (Name 12)
   other : (labels : List (List ℕ)) (behind : ℕ) → NameAt bytes 12 labels behind → (AsksFor name bytes labels behind → ⊥)
@@ -31,7 +31,7 @@ pub data IsDataFault (bytes : List ℕ) (number begin end : ℕ) : DnsFault → 
   other_end : (labels : List (List ℕ)) (behind : ℕ) → begin + 2 ≤ end → relay_type bytes begin ≡ 3
       → NameAt bytes (begin + 2) labels behind → end ≢ behind → IsDataFault bytes number begin end (Data number)
 
--- of the record with this number, counted from 0: no owner's name stands at its place; or octets are missing behind
+-- of the record with this number, counted from 0: no owner's name stands at its place; or octets are missing after
 -- that name; or its data are at fault
 pub data IsRecordFault (bytes : List ℕ) (number at : ℕ) : DnsFault → Type 0 where
   no_name : HasNoNameAt bytes at → IsRecordFault bytes number at (Name at)
@@ -41,7 +41,7 @@ pub data IsRecordFault (bytes : List ℕ) (number at : ℕ) : DnsFault → Type 
       → data_end bytes behind ≤ length bytes → IsOfRelays bytes behind
       → IsDataFault bytes number (data_place behind) (data_end bytes behind) fault → IsRecordFault bytes number at fault
 
--- one of so many records that begin at a place is at fault, and those before it are not
+-- one of that many records that begin at a place is at fault, and those before it are not
 pub record IsFaultAmong (bytes : List ℕ) (start count : ℕ) (fault : DnsFault) : Type 0 where
   pub number : ℕ
   pub at : ℕ
@@ -50,7 +50,7 @@ pub record IsFaultAmong (bytes : List ℕ) (start count : ℕ) (fault : DnsFault
   pub before : AreRecords bytes start number found at
   pub is : IsRecordFault bytes number at fault
 
--- the first fault: of the head; of the question behind a head; or of a record behind both
+-- the first fault: of the head; of the question after a head; or of a record after both
 pub data IsFirstFault (id : ℕ) (name : List (List ℕ)) (bytes : List ℕ) : DnsFault → Type 0 where
   in_head : (fault : DnsFault) → first_holding (head_faults id bytes) ≡ Some fault → IsFirstFault id name bytes fault
   in_question : (fault : DnsFault) → IsHead id bytes → IsQuestionFault name bytes fault → IsFirstFault id name bytes fault

@@ -1,4 +1,4 @@
--- What is told of a source's query and of its answer.
+-- The text of a source's query and of its answer.
 use Rattle.std.specs.{Prelude.{ℕ, Bool, true, false, List, [], ◌∷◌, ◌++◌, flat_map, codes, decimal, Option, Some, None}}
 use Rattle.amt_values.specs.{declared.address.Ip.{Ip}, Text.{ip_text}}
 use Rattle.script_lines.specs.Texts.{hex_text}
@@ -40,7 +40,7 @@ abbrev pub answer_lines : Option (List Found) → List ℕ
 answer_lines None = []
 answer_lines (Some found) = flat_map record_line found ++ choice_line (chosen_of found)
 
--- the query, and what an answer tells
+-- the query, and what an answer says
 abbrev pub dns_text : Ip → Option (List Found) → List ℕ
 dns_text source answer = query_line source ++ answer_lines answer
 

@@ -11,7 +11,7 @@ use crate::record::read_record;
 use amt_dns_names::Name;
 use std::alloc::Global;
 
-// What so many records say that stand from a place on.
+// What that many records say, from a place on.
 fn read_records(
     alloc: Global,
     bytes: &[u8],
@@ -36,7 +36,7 @@ fn read_records(
 /// Reads an answer of at most 65,535 octets to the query with this id for the relays of this name (RFC 1035,
 /// section 4.1; RFC 8777, section 4.2).
 ///
-/// What is told are the relays of all records of type AMTRELAY and class IN, in their order; other records are passed
+/// The list has the relays of all records of type AMTRELAY and class IN, in their order; other records are passed
 /// over, and so are relays of another type than 0 to 3. Owners' names are read, and may be any, since a name of the
 /// reverse tree may be reached through others. What follows the answers may be any. The faults come in the order of
 /// `DnsFault` for the head, and then in the order of the octets. Memory is asked once the head is read; running out

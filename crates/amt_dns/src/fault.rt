@@ -4,7 +4,7 @@
 /// counted, both from 0.
 #[derive(Clone, Copy, Debug, PartialEq, Eq)]
 pub enum DnsFault {
-    /// A head needs so many octets, and so many are there.
+    /// How many octets a head needs, and how many there are.
     Short(u32, u32),
     /// The query had this id, and the answer has the other one.
     Id(u16, u16),
@@ -14,13 +14,13 @@ pub enum DnsFault {
     Truncated,
     /// The server answered with this code, such as 3 where there is no such name (RFC 1035, section 4.1.1).
     Code(u8),
-    /// There are so many questions, and not one.
+    /// There are this many questions, and not one.
     Questions(u16),
     /// At this place a name has to begin, and none stands there.
     Name(u32),
     /// The question is another one, or isn't whole.
     Question,
-    /// Octets of this record are missing behind its owner's name.
+    /// Octets of this record are missing after its owner's name.
     Record(u32),
     /// The data of this record are of no form of type AMTRELAY (RFC 8777, section 4.2).
     Data(u32),

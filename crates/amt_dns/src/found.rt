@@ -1,4 +1,4 @@
-//! Relays, as records of type AMTRELAY tell them.
+//! Relays, as records of type AMTRELAY name them.
 
 use amt_dns_names::Name;
 use amt_values::{Ip, Items};
@@ -13,7 +13,7 @@ pub enum Relay {
     Named(Name),
 }
 
-/// What a record tells of a relay (RFC 8777, section 4.2).
+/// What a record says of a relay (RFC 8777, section 4.2).
 #[derive(Debug, Drop)]
 pub struct Found {
     /// A relay of a lower precedence is tried first.

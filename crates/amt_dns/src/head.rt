@@ -1,4 +1,4 @@
-//! The head of an answer, and fields behind names.
+//! The head of an answer, and the fields after names.
 
 ghost use Rattle.std.specs.Prelude.{◌≡◌, ◌+◌, ◌<◌, ◌≤◌, ◌↔◌, length, IsTrue, IfSome, IfNone};
 ghost use Rattle.amt_values.specs.Conditions.{first_holding};

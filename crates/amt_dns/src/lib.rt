@@ -1,6 +1,6 @@
-//! The answer to the query for a source's relays: which relays it tells, and which one is taken.
+//! The answer to the query for a source's relays: which relays it lists, and which one is tried first.
 //!
-//! Contract: octets are read exactly where they are an answer to the query, and elsewhere their first fault is told.
+//! Contract: octets are read exactly where they are an answer to the query, and elsewhere their first fault is reported.
 //! It knows no socket or moment, and doesn't judge whether an answer is genuine.
 //! Standard: RFC 1035, section 4.1; RFC 8777, section 4.2.
 #![tactic(auto)]

@@ -43,7 +43,7 @@ fn are_alike(labels: &[Bytes], name: &[Bytes]) -> bool
     true
 }
 
-/// Reads the question behind the head, which asks for the relays of the name, and gives the place behind it.
+/// Reads the question after the head, which asks for the relays of the name, and gives the place after it.
 pub fn read_question(alloc: Global, bytes: &[u8], name: &Name) -> Result<usize, DnsFault>
     requires few { length bytes.now ≤ 65535 }
     requires head { 12 ≤ length bytes.now }

@@ -10,8 +10,8 @@ use crate::question::name_at;
 use crate::relay::read_data;
 use std::alloc::Global;
 
-/// Reads the record that has this number and begins at this place, puts the relay that it tells at the end of what
-/// was found, and gives the place behind it.
+/// Reads the record that has this number and begins at this place, puts the relay that it names at the end of what
+/// was found, and gives the place after it.
 pub fn read_record(
     alloc: Global,
     bytes: &[u8],

@@ -1,7 +1,7 @@
 //! The data of a record of relays.
 
 ghost use Rattle.std.specs.Prelude.{◌≡◌, ◌≢◌, ◌+◌, ◌<◌, ◌≤◌, length, IfOk, IfErr, IfSome, IfNone};
-ghost use Rattle.amt_dns.specs.{declared.fault.DnsFault.{DnsFault as DnsFaultValue}, Answer.{IsRelay, Tells, relay_length, relay_type}, Fault.{IsDataFault}};
+ghost use Rattle.amt_dns.specs.{declared.fault.DnsFault.{DnsFault as DnsFaultValue}, Answer.{IsRelay, IsRelayData, relay_length, relay_type}, Fault.{IsDataFault}};
 
 use crate::fault::DnsFault;
 use crate::found::{Found, Relay};
@@ -25,7 +25,7 @@ fn address_at(bytes: &[u8], kind: u8, at: usize, end: usize) -> Option<Relay>
     }
 }
 
-/// What the data of a record tell, which begin and end at these places: nothing where the relay is of a type that
+/// The relay in the data of a record, which begin and end at these places: nothing where the relay is of a type that
 /// isn't known.
 pub fn read_data(
     alloc: Global,
@@ -37,7 +37,7 @@ pub fn read_data(
     requires few { length bytes.now ≤ 65535 }
     requires order { begin ≤ end }
     requires within { end ≤ length bytes.now }
-    ensures some { IfOk result (λ read. IfSome read (Tells bytes.now begin end)) }
+    ensures some { IfOk result (λ read. IfSome read (IsRelayData bytes.now begin end)) }
     ensures none { IfOk result (λ read. IfNone read
         ((begin + 2 ≤ end) × (3 < relay_type bytes.now begin))) }
     ensures refused { IfErr result (λ fault. fault ≢ DnsFaultValue.Memory

@@ -1,4 +1,4 @@
-//! What is told of a query and its answer.
+//! The text of a query and of its answer.
 
 ghost use Rattle.std.specs.Prelude.{◌≡◌, ◌≤◌, ◌++◌, ◌^◌, decimal, flat_map, length, codes, IfOk, IfSome, OnOk};
 ghost use Rattle.amt_dns.specs.{Choice.{chosen_of}, Texts.{answer_lines, choice_line, dns_text, fault_text, found_text, query_line, record_line, relay_text}};

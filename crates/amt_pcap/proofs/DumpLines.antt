@@ -4,7 +4,7 @@ use Rattle.hex.specs.Hex.{encode_with, lower_digits}
 use Rattle.amt_values.specs.Octets.{AreOctets}
 use Rattle.script_lines.{specs.{Lines.{says_nothing}, Script.{Spells}, Texts.{hex_text}}, proofs.Words.{fields-word-last, hex_length, hex_word, plain_glyphs}}
 use Rattle.amt_dump.specs.Lines.{dump_kind}
-use Rattle.amt_pcap.specs.{declared.{capture.{Capture.{Capture}, Item.{Item}}, udp.Datagram.{Datagram}}, Texts.{HasDumpLine, capture_lines_text, is_of_tunnel, payload_line, tunnelled, tunnelled_if, tunnelled_in}, Udp.{datagram_if, datagram_of, has_udp, udp_place}}
+use Rattle.amt_pcap.specs.{declared.{capture.{Capture.{Capture}, Item.{Item}}, udp.Datagram.{Datagram}}, Texts.{HasDumpLine, capture_lines_text, is_of_tunnel, payload_line, tunnel_payloads, tunnel_payloads_if, tunnel_payloads_in}, Udp.{datagram_if, datagram_of, has_udp, udp_place}}
 use Rattle.amt_pcap.proofs.Pieces.{GoesOn, end_goes_on, flat_map-next, line_goes_on, piece_of_line}
 
 short_payload : (packet : List ℕ) (place : Option ℕ) → length packet ≤ 65535 → IfSome (datagram_if packet place) (λ one. length one.payload ≤ 65535)
@@ -18,7 +18,7 @@ pub payload_short : (packet : List ℕ) (datagram : Datagram) → datagram_of pa
 payload_short packet datagram found short =
     subst (λ (one : Option Datagram). IfSome one (λ d. length d.payload ≤ 65535)) found (short_payload packet (udp_place packet) short)
 
-pub datagram_said : (datagram : Datagram) → HasDumpLine datagram.payload → All HasDumpLine (tunnelled_if (Some datagram))
+pub datagram_said : (datagram : Datagram) → HasDumpLine datagram.payload → All HasDumpLine (tunnel_payloads_if (Some datagram))
 datagram_said datagram said =
     cond_both (is_of_tunnel datagram) (datagram.payload ∷ []) [] (All HasDumpLine) (λ _. All-cons HasDumpLine datagram.payload [] said (All-nil HasDumpLine))
     (λ _. All-nil HasDumpLine)
@@ -47,15 +47,15 @@ payloads_go_on (payload ∷ more) past each =
     (ap says_nothing alone ∙ no_comment payload each.0.octets) plain (record { text = text; parts = alone; names = word.names })
     (payloads_go_on more (past ++ payload ∷ []) each.1))
 
-pub lines_spelled : (capture : Capture) → All HasDumpLine (tunnelled capture) → Spells dump_kind (tunnelled capture) (capture_lines_text capture)
+pub lines_spelled : (capture : Capture) → All HasDumpLine (tunnel_payloads capture) → Spells dump_kind (tunnel_payloads capture) (capture_lines_text capture)
 unfolding capture_lines_text
 lines_spelled capture each =
-    let all = payloads_go_on (tunnelled capture) [] (recursion_from_All HasDumpLine (tunnelled capture) each) in
-    record { said = tunnelled capture; all_lines = record { short = all.short; says = all.says }; made = refl }
+    let all = payloads_go_on (tunnel_payloads capture) [] (recursion_from_All HasDumpLine (tunnel_payloads capture) each) in
+    record { said = tunnel_payloads capture; all_lines = record { short = all.short; says = all.says }; made = refl }
 
 -- the datagrams so far, and that of the next item
 pub tunnelled-next : (all : List Item) (i : ℕ) (item : Item) → i < length all → item ≡ get_or all i item
-    → flat_map (λ one. tunnelled_in one.packet) (take (i + 1) all) ≡ flat_map (λ one. tunnelled_in one.packet) (take i all) ++ tunnelled_in item.packet
+    → flat_map (λ one. tunnel_payloads_in one.packet) (take (i + 1) all) ≡ flat_map (λ one. tunnel_payloads_in one.packet) (take i all) ++ tunnel_payloads_in item.packet
 tunnelled-next all i item inside is =
-    let found : Item → List (List ℕ) = λ one. tunnelled_in one.packet in
+    let found : Item → List (List ℕ) = λ one. tunnel_payloads_in one.packet in
     flat_map-next found all i item inside ∙ ap (λ (one : Item). flat_map found (take i all) ++ found one) (sym is)

@@ -7,7 +7,7 @@ use Rattle.amt_messages.specs.StatedLength.{inner_length_of}
 use Rattle.inner_datagrams.specs.Head.{first_head_fault}
 use Rattle.amt_pcap.specs.declared.{capture.{Item.{Item}, Capture.{Capture}, CaptureFault.{CaptureFault, TheVariants.{Short, Magic, Version, LinkType}}, Skip.{Skip, TheVariants.{Cut, Frame, Ip}}}, format.{FieldOrder.{FieldOrder, TheVariants.{Big, Little}}, Format.{Format}}}
 
--- the number of so many octets that stands at a place, in the order of the file's fields
+-- the number of that many octets that stands at a place, in the order of the file's fields
 abbrev pub number_at : FieldOrder → ℕ → List ℕ → ℕ → ℕ
 number_at Big size bytes at = big_number size (drop at bytes)
 number_at Little size bytes at = little_number size (drop at bytes)
@@ -69,20 +69,20 @@ abbrev pub is_tag : List ℕ → ℕ → Bool
 is_tag frame at = not (nat_lt (length frame) (at + 2))
     && ((big_number 2 (drop at frame) == 0x8100) || (big_number 2 (drop at frame) == 0x88a8))
 
--- where the IP packet of a frame begins, with at most so many tags before its type
+-- where the IP packet of a frame begins, with at most that many tags before its type
 unfoldable pub packet_place : ℕ → List ℕ → ℕ → Option ℕ
 packet_place zero frame at = if is_ip_type frame at then Some (at + 2) else None
 packet_place (suc tags) frame at =
     if is_ip_type frame at then Some (at + 2)
     else (if is_tag frame at then packet_place tags frame (at + 4) else None)
 
--- what a frame carries behind two addresses of 6 octets, two tags at most, and its type
-abbrev pub carried_in : List ℕ → Option ℕ → Option (List ℕ)
-carried_in frame None = None
-carried_in frame (Some place) = Some (drop place frame)
+-- what a frame carries after two addresses of 6 octets, two tags at most, and its type
+abbrev pub payload_from : List ℕ → Option ℕ → Option (List ℕ)
+payload_from frame None = None
+payload_from frame (Some place) = Some (drop place frame)
 
 abbrev pub payload_of : List ℕ → Option (List ℕ)
-payload_of frame = carried_in frame (packet_place 2 frame 12)
+payload_of frame = payload_from frame (packet_place 2 frame 12)
 
 -- the packet at the head of these octets, as long as it says that it is; what follows it, as the padding of a frame, is
 -- no part of it
@@ -98,7 +98,7 @@ abbrev pub packet_in_frame : Option (List ℕ) → Result (List ℕ) Skip
 packet_in_frame None = Err Frame
 packet_in_frame (Some octets) = packet_at_head octets
 
--- the packet in what was captured of a link of this type, of so many octets originally
+-- the packet in what was captured of a link of this type, of that many octets originally
 abbrev pub packet_of : ℕ → ℕ → List ℕ → Result (List ℕ) Skip
 packet_of link original captured =
     if nat_lt (length captured) original then Err Cut
@@ -122,7 +122,7 @@ item_at format bytes at = record {
   packet = packet_of (link_type format.order bytes) (number_at format.order 4 bytes (at + 12)) (captured_at format bytes at);
 }
 
--- whole records stand behind the head up to the place, and hold these items
+-- whole records stand after the head up to the place, and hold these items
 pub data AreRecords (format : Format) (bytes : List ℕ) : List Item → ℕ → Type 0 where
   none : AreRecords format bytes [] 24
   more : (items : List Item) (at : ℕ) → AreRecords format bytes items at → record_end format bytes at ≤ length bytes
@@ -141,7 +141,7 @@ pub record IsCapture (bytes : List ℕ) (capture : Capture) : Type 0 where
 abbrev pub IsCounted : FieldOrder → List ℕ → Type 0
 IsCounted order octets = length octets ≡ 16 + number_at order 4 octets 8
 
--- the octets are those of a head, of a record for each item, and of the tail, one behind another
+-- the octets are those of a head, of a record for each item, and of the tail, one after another
 pub record HasParts (bytes : List ℕ) (capture : Capture) : Type 0 where
   pub head : List ℕ
   pub records : List (List ℕ)

@@ -106,17 +106,17 @@ captured_script relay capture = record {
 }
 
 -- the tunnel's datagram in an item, if there is one
-abbrev pub tunnelled_if : Option Datagram → List (List ℕ)
-tunnelled_if None = []
-tunnelled_if (Some datagram) = if is_of_tunnel datagram then datagram.payload ∷ [] else []
+abbrev pub tunnel_payloads_if : Option Datagram → List (List ℕ)
+tunnel_payloads_if None = []
+tunnel_payloads_if (Some datagram) = if is_of_tunnel datagram then datagram.payload ∷ [] else []
 
-abbrev pub tunnelled_in : Result (List ℕ) Skip → List (List ℕ)
-tunnelled_in (Err skip) = []
-tunnelled_in (Ok packet) = tunnelled_if (datagram_of packet)
+abbrev pub tunnel_payloads_in : Result (List ℕ) Skip → List (List ℕ)
+tunnel_payloads_in (Err skip) = []
+tunnel_payloads_in (Ok packet) = tunnel_payloads_if (datagram_of packet)
 
 -- those of a capture, in order
-abbrev pub tunnelled : Capture → List (List ℕ)
-tunnelled capture = flat_map (λ item. tunnelled_in item.packet) capture.items
+abbrev pub tunnel_payloads : Capture → List (List ℕ)
+tunnel_payloads capture = flat_map (λ item. tunnel_payloads_in item.packet) capture.items
 
 -- octets that a line of a dump can say
 pub record HasDumpLine (payload : List ℕ) : Type 0 where
@@ -128,7 +128,7 @@ abbrev pub payload_line : List ℕ → List ℕ
 payload_line payload = hex_text payload ++ (10 ∷ [])
 
 unfoldable pub capture_lines_text : Capture → List ℕ
-capture_lines_text capture = flat_map payload_line (tunnelled capture)
+capture_lines_text capture = flat_map payload_line (tunnel_payloads capture)
 
 -- each packet is one that IP can carry
 abbrev pub IsShortPacket : Result (List ℕ) Skip → Type 0

@@ -5,13 +5,13 @@ use Rattle.amt_values.specs.{IpHeader.{ip_version}}
 use Rattle.inner_datagrams.specs.{Head.{head_at}, Header.{fragment_bits, header_octets, protocol_number}, Header6.{next_header}}
 use Rattle.amt_pcap.specs.declared.udp.Datagram.{Datagram}
 
--- of IPv4 the place behind its header, where it carries UDP and is no fragment
+-- of IPv4 the place after its header, where it carries UDP and is no fragment
 abbrev pub udp_place4 : List ℕ → Option ℕ
 udp_place4 packet =
     if (protocol_number packet == 17) && (fragment_bits packet == 0) && not (nat_lt (header_octets packet) 20)
     then Some (header_octets packet) else None
 
--- of IPv6 the place behind its header, where UDP follows at once
+-- of IPv6 the place after its header, where UDP follows at once
 abbrev pub udp_place6 : List ℕ → Option ℕ
 udp_place6 packet = if next_header packet == 17 then Some 40 else None
 

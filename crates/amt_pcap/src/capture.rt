@@ -7,7 +7,7 @@ use amt_values::{Bytes, Items, Moment};
 pub enum Skip {
     /// Fewer octets were captured than there were.
     Cut,
-    /// An Ethernet frame carries neither IPv4 nor IPv6, behind two tags at most.
+    /// An Ethernet frame carries neither IPv4 nor IPv6, after two tags at most.
     Frame,
     /// There is no IP header, or not as much as it says.
     Ip,
@@ -36,7 +36,7 @@ pub struct Capture {
 /// Why octets are no capture: the first of these that holds of the head.
 #[derive(Clone, Copy, Debug, PartialEq, Eq)]
 pub enum CaptureFault {
-    /// A head needs so many octets, and so many are there.
+    /// How many octets a head needs, and how many there are.
     Short(u32, u32),
     /// The first four octets, read big-endian, are of another format.
     Magic(u32),

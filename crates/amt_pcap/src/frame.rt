@@ -27,7 +27,7 @@ fn is_ip_type(frame: &[u8], at: usize) -> bool
     matches!(type_at(frame, at), Some(0x0800 | 0x86dd))
 }
 
-// The place behind a tag, or this one where no tag stands.
+// The place after a tag, or this one where no tag stands.
 fn behind_tag(frame: &[u8], at: usize) -> usize
     requires { at ≤ 16 }
     ensures place { result ≡ if is_tag frame.now at then at + 4 else at }
@@ -39,7 +39,7 @@ fn behind_tag(frame: &[u8], at: usize) -> usize
     }
 }
 
-/// What a frame carries behind its addresses, two tags at most, and its type: an IP packet.
+/// What a frame carries after its addresses, two tags at most, and its type: an IP packet.
 pub fn payload_of(frame: &[u8]) -> Option<&[u8]>
     ensures { option_map (λ payload. payload.now) result ≡ payload_of frame.now }
 {

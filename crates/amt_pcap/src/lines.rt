@@ -3,7 +3,7 @@
 ghost use Rattle.std.specs.Prelude.{◌≡◌, ◌≤◌, ◌++◌, length, All, flat_map, IfOk, OnOk, Ok};
 ghost use Rattle.amt_dump.specs.Lines.{dump_kind};
 ghost use Rattle.script_lines.specs.Script.{Spells};
-ghost use Rattle.amt_pcap.specs.Texts.{HasDumpLine, HasShortPackets, IsShortPacket, capture_lines_text, is_of_tunnel, payload_line, tunnelled, tunnelled_in};
+ghost use Rattle.amt_pcap.specs.Texts.{HasDumpLine, HasShortPackets, IsShortPacket, capture_lines_text, is_of_tunnel, payload_line, tunnel_payloads, tunnel_payloads_in};
 
 use crate::capture::{Capture, Item};
 use crate::udp::{Datagram, datagram_of};
@@ -21,8 +21,8 @@ fn is_of_tunnel(datagram: &Datagram) -> bool
 // Puts the line of the tunnel's datagram in a packet at the end, if there is one.
 fn append_packet(alloc: Global, text: &mut Bytes, packet: &[u8]) -> Result<(), AllocError>
     requires { length packet.now ≤ 65535 }
-    ensures text { OnOk result (text.new ≡ text.old ++ flat_map payload_line (tunnelled_in (Ok packet.now))) }
-    ensures said { OnOk result (All HasDumpLine (tunnelled_in (Ok packet.now))) }
+    ensures text { OnOk result (text.new ≡ text.old ++ flat_map payload_line (tunnel_payloads_in (Ok packet.now))) }
+    ensures said { OnOk result (All HasDumpLine (tunnel_payloads_in (Ok packet.now))) }
 {
     let Some(datagram) = datagram_of(alloc, packet)? else {
         return Ok(());
@@ -37,8 +37,8 @@ fn append_packet(alloc: Global, text: &mut Bytes, packet: &[u8]) -> Result<(), A
 // The same of an item.
 fn append_item(alloc: Global, text: &mut Bytes, item: &Item) -> Result<(), AllocError>
     requires { IsShortPacket item.now.packet }
-    ensures text { OnOk result (text.new ≡ text.old ++ flat_map payload_line (tunnelled_in item.now.packet)) }
-    ensures said { OnOk result (All HasDumpLine (tunnelled_in item.now.packet)) }
+    ensures text { OnOk result (text.new ≡ text.old ++ flat_map payload_line (tunnel_payloads_in item.now.packet)) }
+    ensures said { OnOk result (All HasDumpLine (tunnel_payloads_in item.now.packet)) }
 {
     match &item.packet {
         Ok(packet) => append_packet(alloc, text, packet.as_slice()),
@@ -50,7 +50,7 @@ fn append_item(alloc: Global, text: &mut Bytes, item: &Item) -> Result<(), Alloc
 pub fn capture_lines(alloc: Global, capture: &Capture) -> Result<Bytes, AllocError>
     requires { HasShortPackets capture.now }
     ensures text { IfOk result (λ text. text ≡ capture_lines_text capture.now) }
-    ensures spelled { IfOk result (λ text. Spells dump_kind (tunnelled capture.now) text) }
+    ensures spelled { IfOk result (λ text. Spells dump_kind (tunnel_payloads capture.now) text) }
 {
     let mut text = Bytes::new(alloc);
     for item in capture.items.as_slice() {

@@ -25,7 +25,7 @@ fn packet_at_head(octets: &[u8]) -> Result<&[u8], Skip>
     Ok(packet)
 }
 
-/// The packet in what was captured of a link of this type, of so many octets originally.
+/// The packet in what was captured of a link of this type, of that many octets originally.
 pub fn packet_of(link: u16, original: u32, captured: &[u8]) -> Result<&[u8], Skip>
     requires { length captured.now ≤ 16777216 }
     ensures { MatchResult result (λ packet. packet_of link original captured.now ≡ Ok packet.now)

@@ -37,7 +37,7 @@ fn moment_at(format: Format, bytes: &[u8], at: usize) -> Moment
     Moment::new(seconds * 1000 + u64::from(fraction)).unwrap()
 }
 
-// The packet in what was captured of a link of this type, of so many octets originally.
+// The packet in what was captured of a link of this type, of that many octets originally.
 fn read_packet(
     alloc: Global,
     link: u16,
@@ -78,7 +78,7 @@ fn read_item(
     })
 }
 
-// The records behind the head, and what follows them.
+// The records after the head, and what follows them.
 fn read_records(alloc: Global, format: Format, bytes: &[u8]) -> Result<Capture, AllocError>
     requires few { length bytes.now ≤ 16777216 }
     requires head { IsHead bytes.now format }

@@ -20,7 +20,7 @@ pub struct Datagram {
 // The least octets of an IPv4 packet that carries UDP.
 const LEAST: usize = 28;
 
-// The place behind the IP header, where UDP follows there.
+// The place after the IP header, where UDP follows there.
 fn udp_place(packet: &[u8]) -> Option<usize>
     requires { 20 ≤ length packet.now }
     ensures place { result ≡ udp_place packet.now }

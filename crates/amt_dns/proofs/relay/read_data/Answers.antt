@@ -1,4 +1,4 @@
--- What is wrong with the data, where they tell nothing.
+-- What is wrong with the data, where no relay is in them.
 use Rattle.std.proofs.{Common.{arith}, lemmas.Result.{err_from_is_err_and}}
 use Rattle.amt_dns.specs.{Fault.{IsDataFault}}
 use Rattle.amt_dns.proofs.relay.read_data.Goals as goal

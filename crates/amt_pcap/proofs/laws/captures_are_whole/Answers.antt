@@ -1,4 +1,4 @@
--- Records up to a place are the octets behind the head up to there.
+-- Records up to a place are the octets after the head up to there.
 use Rattle.std.proofs.{Common.{◌≡◌, ℕ, ◌+◌, ◌≤◌, List, [], ◌∷◌, ◌++◌, All, length, take, drop, refl, sym, ap, ◌∙◌, append_assoc, append-nil, length-append, length-drop, arith}, Math.Seq.{take-add}, lemmas.List.{drop-drop, drop-take, length-take-le, take-append-drop, Elements.{All-nil, All-push}, Folds.{concat-append}}}
 use Rattle.std.specs.List.{concat}
 use Rattle.byteorder.specs.Numbers.{big_from-take, little_from-take}

@@ -3,7 +3,7 @@ use Rattle.amt_command.proofs.pcap.CaptureScriptHasTask.read.Goals as goal
 
 pub returns-in_default-clause-fault : goal.returns-in_default-clause-fault
 returns-in_default-clause-fault c =
-    no_relay_told c.args.self.now.relay c.args.bytes.now c.told.result c.told.ensures
+    no_relay_told c.args.self.now.relay c.args.bytes.now c.prefixed_fault.result c.prefixed_fault.ensures
     (λ ip names. c.in_default.not-Some ip (c.parse_ip.ensures.only ip (rw (c.as_bytes.ensures.value, c.as_str.ensures) names)))
 
 pub returns-in-Err-clause-fault : goal.returns-in-Err-clause-fault
