@@ -70,6 +70,7 @@ fn check_choices(rt: &impl Abort, alloc: Global) -> Result<(), AllocError> {
                 relay: Relay::None,
             })?;
         }
+        assert!(rt; found.len() <= 4);
         assert_eq!(rt; choose(&found), wanted);
     }
     Ok(())
@@ -91,6 +92,7 @@ fn check_chain(rt: &impl Abort, alloc: Global) -> Result<(), DnsFault> {
     let (Ok(name), Ok(answer)) = (reverse_name(alloc, &SOURCE), chained_answer(alloc)) else {
         return Err(DnsFault::Memory);
     };
+    assert!(rt; answer.len() <= 65_535);
     let found = read_answer(alloc, answer.as_slice(), 0, &name)?;
     assert_eq!(rt; found.len(), 1);
     for one in found.as_slice() {
