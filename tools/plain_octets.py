@@ -316,11 +316,11 @@ def main():
             return 1
         if not try_capture(some_capture()):
             return 1
-    many = bytes.fromhex("d4c3b2a102000400") + bytes(12) + b"e\0\0\0"
+    many = bytearray(bytes.fromhex("d4c3b2a102000400") + bytes(12) + b"e\0\0\0")
     packet = bytes.fromhex("450000240000000040118e8dc6336407c0000201138808dc001000000100000001020304")
     for index in range(100000):
         many += b"".join(it.to_bytes(4, "little") for it in [index // 1000, index % 1000 * 1000, len(packet), len(packet)]) + packet
-    if not try_capture(many):
+    if not try_capture(bytes(many)):
         return 1
     print(f"{INPUTS} answers and {INPUTS} captures, and one of 100,000 records, as the models say")
     return 0
