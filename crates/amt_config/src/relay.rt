@@ -1,6 +1,6 @@
 //! The settings file of a relay.
 
-ghost use Rattle.std.specs.Prelude.{◌≡◌, ◌≤◌, ◌<◌, ◌*◌, ◌⊎◌, [], ◌∷◌, IfOk, IfErr, IfNone, IfSome, IsTrue, IsFalse, OnOk, Ok, Err};
+ghost use Rattle.std.specs.Prelude.{◌≡◌, ◌≤◌, ◌<◌, ◌*◌, ◌⊎◌, IfOk, IfErr, IfNone, IfSome, IsTrue, IsFalse, OnOk, Ok, Err};
 ghost use Rattle.amt_values.specs.Conditions.{First};
 ghost use Rattle.relay_machine.specs.{declared.number_key.NumberKey.{NumberKey as AnyNumber, TheVariants.{Endpoints, QuerySeconds, ResponseTenths}}, Settings.{AreLawfulSettings, IsInKeyRange, number_at as number_in}};
 ghost use Rattle.amt_script.specs.Row.{number_word};

@@ -1,7 +1,7 @@
 //! A whole answer is read here.
 
-ghost use Rattle.std.specs.Prelude.{◌≡◌, ◌≢◌, ℕ, ◌+◌, ◌≤◌, List, [], length, Ok, Err, IfOk, IfErr};
-ghost use Rattle.amt_dns.specs.{declared.{fault.DnsFault.{DnsFault as DnsFaultValue}, found.Found.{Found as FoundValue}}, Answer.{AreRecords, IsAnswer, IsHead, IsQuestion}, Fault.{IsFaultAmong, IsFirstFault}};
+ghost use Rattle.std.specs.Prelude.{◌≡◌, ◌≢◌, ℕ, ◌≤◌, List, length, Ok, Err, IfOk, IfErr};
+ghost use Rattle.amt_dns.specs.{declared.{fault.DnsFault.{DnsFault as DnsFaultValue}, found.Found.{Found as FoundValue}}, Answer.{AreRecords, IsAnswer, IsHead}, Fault.{IsFaultAmong, IsFirstFault}};
 
 use crate::fault::DnsFault;
 use crate::found::FoundList;

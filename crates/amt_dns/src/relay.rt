@@ -1,6 +1,6 @@
 //! The data of a record of relays.
 
-ghost use Rattle.std.specs.Prelude.{◌≡◌, ◌≢◌, ◌+◌, ◌<◌, ◌≤◌, length, IfOk, IfErr, IfSome, IfNone};
+ghost use Rattle.std.specs.Prelude.{◌≢◌, ◌+◌, ◌<◌, ◌≤◌, length, IfOk, IfErr, IfSome, IfNone};
 ghost use Rattle.amt_dns.specs.{declared.fault.DnsFault.{DnsFault as DnsFaultValue}, Answer.{IsRelay, IsRelayData, relay_length, relay_type}, Fault.{IsDataFault}};
 
 use crate::fault::DnsFault;

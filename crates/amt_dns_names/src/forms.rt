@@ -1,6 +1,6 @@
 //! What stands at a place in a part of a name (RFC 1035, section 4.1.4).
 
-ghost use Rattle.std.specs.Prelude.{◌≡◌, ℕ, ◌+◌, ◌≤◌, ◌<◌, ◌↔◌, List, length, slice_index, IfSome, IfNone, IsTrue, unwrap_or};
+ghost use Rattle.std.specs.Prelude.{◌≡◌, ℕ, ◌+◌, ◌≤◌, ◌<◌, ◌↔◌, List, IfSome, IfNone, IsTrue, unwrap_or};
 ghost use Rattle.amt_dns_names.specs.NameAt.{IsLabelAt, IsOctetAt, IsPointerAt};
 
 use amt_values::u16_at;

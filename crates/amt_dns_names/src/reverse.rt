@@ -1,6 +1,6 @@
 //! The name of an address in the reverse tree.
 
-ghost use Rattle.std.specs.Prelude.{◌≡◌, ◌<◌, ◌≤◌, ◌++◌, IfOk, OnOk, length};
+ghost use Rattle.std.specs.Prelude.{◌≡◌, ◌<◌, ◌≤◌, IfOk, length};
 ghost use Rattle.amt_dns_names.specs.Name.{name_wire};
 ghost use Rattle.amt_dns_names.specs.Reverse.{digit_above, digit_labels, digit_octet, octet_above, octet_labels, reverse_labels};
 

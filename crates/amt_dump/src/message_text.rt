@@ -1,6 +1,6 @@
 //! The line of a message.
 
-ghost use Rattle.std.specs.Prelude.{◌≡◌, ◌≤◌, ◌++◌, codes, length, Err, Ok, OnOk};
+ghost use Rattle.std.specs.Prelude.{◌≡◌, ◌≤◌, ◌++◌, length, Err, Ok, OnOk};
 ghost use Rattle.amt_messages.specs.{Messages.{IsSendable}, declared.message.Message.TheVariants.{Advertisement, Discovery, Multicast, Query, Request, Teardown, Update}};
 ghost use Rattle.amt_dump.specs.Texts.{head_words, limited_words, line_of, mac_words, message_words, packet_words, request_words, seen_words};
 

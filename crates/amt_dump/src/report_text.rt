@@ -1,6 +1,6 @@
 //! The lines of a membership report.
 
-ghost use Rattle.std.specs.Prelude.{◌≡◌, ◌≤◌, ◌++◌, codes, length, Ok, OnOk};
+ghost use Rattle.std.specs.Prelude.{◌≡◌, ◌≤◌, ◌++◌, length, Ok, OnOk};
 ghost use Rattle.relay_machine.specs.Updates.{report_in};
 ghost use Rattle.amt_dump.specs.Texts.{line_of, record_words, report_lines};
 

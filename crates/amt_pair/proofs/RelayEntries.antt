@@ -1,5 +1,5 @@
 -- What the entry that a datagram of a gateway makes at the relay is for one gateway.
-use Rattle.std.{proofs.{Common.{◌≡◌, ℕ, ◌+◌, ◌≤◌, Bool, true, false, cond, List, [], length, All, Contains, Some, None, Result, Ok, refl, sym, ap, subst, ◌∙◌, arith, inl, inr}, lemmas.{Bool.{cases_Bool, cond-false, cond-true, false_from_ne_true}, Map.Views.{tells_apart}}}}
+use Rattle.std.proofs.{Common.{◌≡◌, ℕ, ◌+◌, ◌≤◌, Bool, true, false, cond, List, length, All, Contains, Some, None, Result, Ok, refl, sym, ap, subst, ◌∙◌, arith, inl, inr}, lemmas.{Bool.{cases_Bool, cond-false, cond-true, false_from_ne_true}, Map.Views.{tells_apart}}}
 use Rattle.amt_values.{specs.{Endpoint.{endpoint_of}, EndpointValue.{EndpointValue}, Group.{is_forwardable}, declared.{mac.Mac48.{Mac48}, peer.Peer.{Peer}}}, proofs.{OnePeer.{one_peer}, Orders.{endpoint_order-exact}}}
 use Rattle.amt_messages.specs.{Layout.{spelling_of}, Refusal.{message_of}, declared.message.Message.{Message, TheVariants.{Update, Teardown}}}
 use Rattle.response_mac.specs.declared.secret.Secret.{Secret}

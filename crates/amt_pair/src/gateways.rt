@@ -1,9 +1,9 @@
 //! The gateways of a pair.
 
-ghost use Rattle.std.specs.{Prelude.{◌≡◌, ◌<◌, ◌≤◌, ◌+◌, ◌^◌, ◌||◌, ℕ, HoldsAt, IsTrue, vec_len, vec_capacity, ◌++◌, ◌∷◌, [], false, true, get_or, length, map, set, slice_index, All, List, IfOk, OnOk, OnErr, IfSome, IfNone}, List.{list_any}};
+ghost use Rattle.std.specs.{Prelude.{◌≡◌, ◌<◌, ◌≤◌, ◌+◌, ◌^◌, ◌||◌, ℕ, HoldsAt, IsTrue, vec_len, vec_capacity, ◌++◌, ◌∷◌, [], false, true, get_or, length, map, set, All, List, IfOk, OnOk, OnErr, IfSome, IfNone}, List.{list_any}};
 ghost use Rattle.amt_values.specs.Endpoint.{endpoint_of};
-ghost use Rattle.gateway_machine.specs.{Answers.{same_peer}, declared.event.GatewayEvent.TheVariants.{Moment as Passes}, Events.{IsEventOf}, Runs.{settings_of}};
-ghost use Rattle.amt_pair.specs.{Parts.{gateway_part, gateway_parts}, Schedule.{Member, is_endpoint, upwards_on, with_gateway_event}, Members.{AreMembersAt, AreShort, HasCome, HasComeTo, IsMemberAt, host_of, kept_upward}};
+ghost use Rattle.gateway_machine.specs.{Answers.{same_peer}, Events.{IsEventOf}, Runs.{settings_of}};
+ghost use Rattle.amt_pair.specs.{Parts.{gateway_part}, Schedule.{Member, is_endpoint, upwards_on, with_gateway_event}, Members.{AreMembersAt, AreShort, HasCome, HasComeTo, IsMemberAt, host_of, kept_upward}};
 ghost use Rattle.socket_merge.specs.History.{same_name};
 
 use crate::datagrams::{UpDatagrams, datagrams_from};

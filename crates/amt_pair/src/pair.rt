@@ -62,7 +62,7 @@ impl Pair {
     ghost use Rattle.relay_machine.specs.{Answers.{rows_after, settings_of as relay_settings_of}, EventSize.{IsEvent}, Settings.{AreLawfulSettings}, declared.settings.Settings.{Settings as SettingsValue}};
     ghost use Rattle.response_mac.specs.declared.secret.Secret.{Secret as SecretValue};
     ghost use Rattle.socket_merge.specs.FullReport.{family_by};
-    ghost use Rattle.amt_pair.specs.{Agreement.{CountsInTime, IsActive, IsHeard, IsInTime, wants_now}, Parts.{gateway_part, parts_of, relay_step}, Schedule.{FitsItsType, MayCome, Member, Upward, course_of, with_pair_event, with_relay_event}, Sent.{SentReport}};
+    ghost use Rattle.amt_pair.specs.{Agreement.{CountsInTime, IsActive, IsHeard, IsInTime, wants_now}, Parts.{gateway_part, parts_of, relay_step}, Schedule.{FitsItsType, MayCome, Member, Upward, with_pair_event, with_relay_event}, Sent.{SentReport}};
     ghost use Rattle.amt_pair.specs.{Setup.{Host, has_taken, settings_of_host}, State.{After, ForCourse, ForMember, HasStarved, PairAt, StandsFor, hosts_of, sent_down, sent_up, with_member_at}, declared.step.Part.TheVariants.{Absent as AbsentPart, Relay as RelayPart}};
     ghost use Rattle.amt_pair.specs.declared.event.PairEvent.TheVariants as events;
 

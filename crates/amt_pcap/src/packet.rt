@@ -1,6 +1,6 @@
 //! IP packets in what was captured.
 
-ghost use Rattle.std.specs.Prelude.{◌≡◌, ◌≢◌, ◌≤◌, length, Ok, Err, IfOk, MatchResult};
+ghost use Rattle.std.specs.Prelude.{◌≡◌, ◌≤◌, length, Ok, Err, MatchResult};
 ghost use Rattle.amt_pcap.specs.Capture.{packet_at_head, packet_of};
 
 use crate::capture::Skip;

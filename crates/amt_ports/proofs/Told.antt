@@ -1,5 +1,5 @@
 -- Lists that devices tell: nothing more, and two lots in a row.
-use Rattle.std.proofs.Common.{◌≡◌, List, [], ◌++◌, Option, None, Some, refl, sym, ap, subst, ◌∙◌, append_assoc, append-nil}
+use Rattle.std.proofs.Common.{List, [], ◌++◌, Option, None, Some, refl, sym, ap, subst, ◌∙◌, append_assoc, append-nil}
 use Rattle.amt_ports.specs.Told.{AppendsAll}
 
 -- nothing was told

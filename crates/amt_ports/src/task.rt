@@ -1,6 +1,6 @@
 //! Work that may run in a thread of its own, and what starts it.
-ghost use Rattle.std.specs.Prelude.{◌≡◌, ◌≤◌, ℕ, Option, IfOk, OnErr};
-ghost use Rattle.amt_ports.specs.{Causes.{HasCause, next_count}, Starts.{HasStarted}};
+ghost use Rattle.std.specs.Prelude.{◌≡◌, ℕ, Option, IfOk, OnErr};
+ghost use Rattle.amt_ports.specs.{Causes.{HasCause}, Starts.{HasStarted}};
 
 use crate::Failed;
 use std::sync::Wait;

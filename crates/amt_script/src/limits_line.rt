@@ -1,6 +1,6 @@
 //! What a line `limits E G S` says. It knows no line before but the limits that are set.
 
-ghost use Rattle.std.specs.Prelude.{◌≡◌, [], ◌∷◌, ◌++◌, IfOk, IfErr, IfSome, IfNone};
+ghost use Rattle.std.specs.Prelude.{[], ◌∷◌, ◌++◌, IfOk, IfErr, IfSome, IfNone};
 ghost use Rattle.amt_values.specs.{Conditions.{First}, Numeral.{IsNumeral}};
 ghost use Rattle.script_lines.specs.{Form.{Fails}, Lines.{fields}};
 ghost use Rattle.amt_script.specs.declared.kind.Kind.TheVariants as kinds;

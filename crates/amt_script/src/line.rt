@@ -1,10 +1,8 @@
 //! What a line of a relay's script says after the lines before it. It knows no text.
 
-ghost use Rattle.std.specs.{Prelude.{◌≡◌, ◌∷◌, ◌++◌, Ok, Err, IfOk, IfErr, MatchResult}, List.{AllByRecursion}};
-ghost use Rattle.amt_values.specs.Conditions.{First};
+ghost use Rattle.std.specs.{Prelude.{◌≡◌, ◌∷◌, Ok, Err, IfOk, IfErr, MatchResult}, List.{AllByRecursion}};
 ghost use Rattle.script_lines.specs.{Lines.{fields}, Reading.{FailsFirst}};
-ghost use Rattle.amt_script.specs.declared.kind.Kind.TheVariants as kinds;
-ghost use Rattle.amt_script.specs.{Fault.{FailsAfter, order_of_values, order_of_reasons}, Reading.{IsAllowed}, Row.{words_of}, Says.{SaysSetting}, Script.{MaySet, SaysAfter}};
+ghost use Rattle.amt_script.specs.{Fault.{FailsAfter, order_of_reasons}, Reading.{IsAllowed}, Script.{SaysAfter}};
 
 use crate::kind::{Kind, NoKind, kind_of_line};
 use crate::limits_line::read_limits;

@@ -1,15 +1,16 @@
 //! The texts of a relay's events and steps. It knows no script and no sink.
 
-ghost use Rattle.std.specs.Prelude.{◌≡◌, ◌++◌, ◌≤◌, codes, decimal, length, OnOk, IfOk};
+ghost use Rattle.std.specs.Prelude.{◌≡◌, ◌++◌, ◌≤◌, length, OnOk, IfOk};
 ghost use Rattle.relay_machine.specs.declared.outcome.Outcome.TheVariants.{Queried, NotForwarded as NotForwardedFor};
 ghost use Rattle.relay_machine.specs.declared.event.Event.TheVariants as events;
-ghost use Rattle.amt_script.specs.{Printed.{HasLine, IsLineOf, IsLineThatSays}, Texts.{answer_line, outcome_text, event_line, event_text, send_text, step_text}};
+ghost use Rattle.amt_script.specs.{Printed.{HasLine, IsLineOf}, Texts.{answer_line, event_text, outcome_text, send_text, step_text}};
 
 use crate::fault_text::{append_limit, append_not_forwarded, append_unlawful};
-use amt_values::{Bytes, Peer, append_numeral, print_peer};
+use amt_values::{Bytes, Moment, Peer, append_numeral, ip_text_names};
 use endpoint_membership::Limits;
 use relay_machine::{Event, NotForwarded, Outcome, Step};
-use script_lines::{append_hex, append_numbered, append_refusal, append_send};
+use response_mac::Secret;
+use script_lines::{append_hex, append_numbered, append_peer, append_refusal, append_send};
 use std::alloc::{AllocError, Global};
 
 fn append_queried(text: &mut Bytes, v6: bool, limited: bool) -> Result<(), AllocError>
@@ -64,75 +65,89 @@ pub fn append_relay_outcome(text: &mut Bytes, outcome: &Outcome) -> Result<(), A
     }
 }
 
-fn print_datagram_line(alloc: Global, from: &Peer, bytes: &Bytes) -> Result<Bytes, AllocError>
-    requires { length bytes.now ≤ 65535 }
-    ensures value { IfOk result (λ text. text ≡ event_line (events.Datagram bytes.now from.now)) }
-    ensures says { IfOk result (IsLineThatSays (events.Datagram bytes.now from.now)) }
+/// Puts the line of a moment at the end, which is read back as that moment.
+#[tactic(auto, unfolding(crate::specs::Texts::event_text))]
+pub fn append_moment_event(text: &mut Bytes, at: Moment) -> Result<(), AllocError>
+    ensures text { OnOk result (text.new ≡ text.old ++ event_text (events.Moment at)) }
+    ensures back { OnOk result (IsLineOf (events.Moment at) (event_text (events.Moment at))) }
 {
-    let peer = print_peer(alloc, from)?;
-    let mut text = Bytes::copied(alloc, b"dg ")?;
-    text.append(peer.as_slice())?;
+    append_numbered(text, b"at ", at.ms())?;
+    text.append(b"\n")
+}
+
+/// Puts the line of a datagram at the end, which is read back as that datagram.
+#[tactic(auto, unfolding(crate::specs::Texts::event_text))]
+pub fn append_datagram_event(text: &mut Bytes, from: &Peer, bytes: &[u8]) -> Result<(), AllocError>
+    requires { length bytes.now ≤ 65535 }
+    ensures text { OnOk result (text.new ≡ text.old ++ event_text (events.Datagram bytes.now from.now)) }
+    ensures back { OnOk result
+        (IsLineOf (events.Datagram bytes.now from.now) (event_text (events.Datagram bytes.now from.now))) }
+{
+    ip_text_names(&from.ip);
+    text.append(b"dg ")?;
+    append_peer(text, from)?;
     text.append(b" ")?;
-    append_hex(&mut text, bytes.as_slice())?;
-    Ok(text)
+    append_hex(text, bytes)?;
+    text.append(b"\n")
 }
 
-fn print_packet_line(alloc: Global, bytes: &Bytes) -> Result<Bytes, AllocError>
+/// Puts the line of a multicast packet at the end, which is read back as that packet.
+#[tactic(auto, unfolding(crate::specs::Texts::event_text))]
+pub fn append_packet_event(text: &mut Bytes, bytes: &[u8]) -> Result<(), AllocError>
     requires { length bytes.now ≤ 65535 }
-    ensures value { IfOk result (λ text. text ≡ event_line (events.Packet bytes.now)) }
-    ensures says { IfOk result (IsLineThatSays (events.Packet bytes.now)) }
+    ensures text { OnOk result (text.new ≡ text.old ++ event_text (events.Packet bytes.now)) }
+    ensures back { OnOk result (IsLineOf (events.Packet bytes.now) (event_text (events.Packet bytes.now))) }
 {
-    let mut text = Bytes::copied(alloc, b"mc ")?;
-    append_hex(&mut text, bytes.as_slice())?;
-    Ok(text)
+    text.append(b"mc ")?;
+    append_hex(text, bytes)?;
+    text.append(b"\n")
 }
 
-fn print_limits_line(alloc: Global, limits: &Limits) -> Result<Bytes, AllocError>
+#[tactic(auto, unfolding(crate::specs::Texts::event_text))]
+fn append_secret_event(text: &mut Bytes, secret: &Secret) -> Result<(), AllocError>
+    ensures text { OnOk result (text.new ≡ text.old ++ event_text (events.Rotate secret.now)) }
+    ensures back { OnOk result (IsLineOf (events.Rotate secret.now) (event_text (events.Rotate secret.now))) }
+{
+    text.append(b"secret ")?;
+    append_hex(text, &secret.0)?;
+    text.append(b"\n")
+}
+
+#[tactic(auto, unfolding(crate::specs::Texts::event_text))]
+fn append_limits_event(text: &mut Bytes, limits: &Limits) -> Result<(), AllocError>
     requires { HasLine (events.Limits limits.now) }
-    ensures value { IfOk result (λ text. text ≡ event_line (events.Limits limits.now)) }
-    ensures says { IfOk result (IsLineThatSays (events.Limits limits.now)) }
+    ensures text { OnOk result (text.new ≡ text.old ++ event_text (events.Limits limits.now)) }
+    ensures back { OnOk result (IsLineOf (events.Limits limits.now) (event_text (events.Limits limits.now))) }
 {
-    let mut text = Bytes::copied(alloc, b"limits ")?;
-    append_numeral(&mut text, u64::from(limits.endpoints))?;
-    text.append(b" ")?;
-    append_numeral(&mut text, u64::from(limits.groups))?;
-    text.append(b" ")?;
-    append_numeral(&mut text, u64::from(limits.sources))?;
-    Ok(text)
+    append_numbered(text, b"limits ", u64::from(limits.endpoints))?;
+    append_numbered(text, b" ", u64::from(limits.groups))?;
+    append_numbered(text, b" ", u64::from(limits.sources))?;
+    text.append(b"\n")
 }
 
-fn print_event_line(alloc: Global, event: &Event) -> Result<Bytes, AllocError>
+fn append_relay_event(text: &mut Bytes, event: &Event) -> Result<(), AllocError>
     requires { HasLine event.now }
-    ensures value { IfOk result (λ text. text ≡ event_line event.now) }
-    ensures says { IfOk result (IsLineThatSays event.now) }
+    ensures text { OnOk result (text.new ≡ text.old ++ event_text event.now) }
+    ensures back { OnOk result (IsLineOf event.now (event_text event.now)) }
 {
     match event {
-        Event::Moment(moment) => {
-            let mut text = Bytes::copied(alloc, b"at ")?;
-            append_numeral(&mut text, moment.ms())?;
-            Ok(text)
-        }
-        Event::Datagram { from, bytes } => print_datagram_line(alloc, from, bytes),
-        Event::Packet { bytes } => print_packet_line(alloc, bytes),
-        Event::Rotate(secret) => {
-            let mut text = Bytes::copied(alloc, b"secret ")?;
-            append_hex(&mut text, &secret.0)?;
-            Ok(text)
-        }
-        Event::Limits(limits) => print_limits_line(alloc, limits),
+        Event::Moment(moment) => append_moment_event(text, *moment),
+        Event::Datagram { from, bytes } => append_datagram_event(text, from, bytes.as_slice()),
+        Event::Packet { bytes } => append_packet_event(text, bytes.as_slice()),
+        Event::Rotate(secret) => append_secret_event(text, secret),
+        Event::Limits(limits) => append_limits_event(text, limits),
     }
 }
 
 /// A script's line that says the event, with its line feed. It is read back as the event, new limits after
 /// settings that allow them.
-#[tactic(auto, unfolding(crate::specs::Texts::event_text))]
 pub fn print_relay_event(alloc: Global, event: &Event) -> Result<Bytes, AllocError>
     requires { HasLine event.now }
     ensures text { IfOk result (λ text. text ≡ event_text event.now) }
     ensures back { IfOk result (IsLineOf event.now) }
 {
-    let mut text = print_event_line(alloc, event)?;
-    text.append(b"\n")?;
+    let mut text = Bytes::new(alloc);
+    append_relay_event(&mut text, event)?;
     Ok(text)
 }
 

@@ -1,52 +1,15 @@
 -- Only groups that change have records, and what a group's changes name is all that may differ of its filter.
-use Rattle.std.{proofs.{Common.{◌≡◌, Bool, true, false, not, cond, ◌&&◌, ◌||◌, List, [], ◌∷◌, ◌++◌, filter, map, All, refl, sym, ap, ◌∙◌}, Math.Bool.{and_comm}, lemmas.{Bool.{and_right, or_from, or_parts, true≢false}, Cmp.{tied_itself}, List.{map-append, Elements.{All-head, All-tail}}, Map.Views.{tells_apart}}}, specs.{List.{flat_map}, Ordering.{is_eq}}}
-use Rattle.amt_values.{specs.{declared.address.Ip.{Ip}, Order.{ip_order}, Ascending.{IsAscending, difference, has}}, proofs.{Orders.{ip_order-exact, ip_order-total}, AscendingLaws.{IsAscending-ascending, IsAscending-filter, has-append, has-ascending, has-difference, has-filter, same_ascending}}}
-use Rattle.source_filter.specs.{Changes.{changes_by, changes_on, record_of_some}, Merging.{merged}, Record.{lists}, declared.mode.Mode.{Mode, TheVariants.{Include, Exclude}}, declared.record.{RecordKind.TheVariants.{Allow, Block}}}
+use Rattle.std.{proofs.{Common.{◌≡◌, Bool, true, false, cond, List, [], ◌∷◌, ◌++◌, filter, map, All, refl, sym, ap, ◌∙◌}, lemmas.{Bool.{and_right, or_from, or_parts, true≢false}, Cmp.{tied_itself}, List.{map-append, Elements.{All-head, All-tail}}, Map.Views.{tells_apart}}}, specs.{List.{flat_map}, Ordering.{is_eq}}}
+use Rattle.amt_values.{specs.{declared.address.Ip.{Ip}, Order.{ip_order}, Ascending.{IsAscending, has}}, proofs.{Orders.{ip_order-exact, ip_order-total}, AscendingLaws.{IsAscending-ascending, flat_map-same, has-append, has-ascending}}}
+use Rattle.source_filter.{specs.{Changes.{changes_on}, Merging.{merged}, Record.{lists}}, proofs.Unchanged.{changes_on-itself}}
 use Rattle.endpoint_membership.{specs.{EndpointGroup.{EndpointGroup, same_endpoint, same_endpoint_group, same_group}, Membership.{Membership, membership_order}, MembershipChanges.{AreChanges, IsChange, changed_pair, changes_pair, filter_at}, declared.membership_change.MembershipChange.{MembershipChange}}, proofs.EndpointGroupOrder.{endpoint_group_order-exact, same_endpoint_group-is}}
 use Rattle.amt_upstream.{specs.{Looking.{changed_groups, changes_on_group, named_by, seen, seen_after, sources_if}, Upstream.{records_on, records_between, filters_in, groups_in, joined}}, proofs.{GroupFilters.{IsUnion-merged, filters_in-none, filters_in-same, some_lists-same}, Narrowed.{Agree, changes_on-seen}}}
 
--- ---- lists by group
-
-module _ {A B : Type 0} (f : A → List B) where
-  left_out : (passes : Bool) (x : A) (xs : List A) → (passes ≡ false → f x ≡ []) → flat_map f (cond passes (x ∷ xs) xs) ≡ f x ++ flat_map f xs
-  left_out true x xs nothing = refl
-  left_out false x xs nothing = sym (ap (λ first. first ++ flat_map f xs) (nothing refl))
-
-  -- items that give nothing may be left out
-  flat_map-filter : (test : A → Bool) → ((x : A) → test x ≡ false → f x ≡ []) → (xs : List A) → flat_map f (filter test xs) ≡ flat_map f xs
-  flat_map-filter test nothing [] = refl
-  flat_map-filter test nothing (x ∷ xs) = left_out (test x) x (filter test xs) (nothing x) ∙ ap (λ rest. f x ++ rest) (flat_map-filter test nothing xs)
-
--- two ascending lists give the same where what is in one alone gives nothing
-flat_map-same : {B : Type 0} (f : Ip → List B) (xs ys : List Ip) → IsAscending ip_order xs → IsAscending ip_order ys → ((x : Ip) → has ip_order xs x ≡ false → f x ≡ [])
-    → ((x : Ip) → has ip_order ys x ≡ false → f x ≡ []) → flat_map f xs ≡ flat_map f ys
-flat_map-same f xs ys first second none_first none_second =
-    sym (flat_map-filter f (has ip_order ys) none_second xs)
-    ∙ ap (flat_map f) (same_ascending ip_order-total ip_order-exact (filter (has ip_order ys) xs) (filter (has ip_order xs) ys)
-    (IsAscending-filter ip_order (has ip_order ys) xs first) (IsAscending-filter ip_order (has ip_order xs) ys second)
-    (λ s. has-filter ip_order-exact (has ip_order ys) xs s ∙ and_comm (has ip_order xs s) (has ip_order ys s) ∙ sym (has-filter ip_order-exact (has ip_order xs) ys s)))
-    ∙ flat_map-filter f (has ip_order xs) none_first ys
-
 -- ---- a filter that stays has no record
-
-none : (xs : List Ip) → ((source : Ip) → has ip_order xs source ≡ false) → xs ≡ []
-none [] each = refl
-none (x ∷ xs) each = absurd (true≢false (sym (ap (λ order. is_eq order || has ip_order xs x) (tied_itself ip_order-total x)) ∙ each x))
-
-never : (listed : Bool) → (listed && not listed) ≡ false
-never true = refl
-never false = refl
-
-difference-itself : (sources : List Ip) → difference ip_order sources sources ≡ []
-difference-itself sources = none (difference ip_order sources sources) (λ source. has-difference ip_order-exact sources sources source ∙ never (has ip_order sources source))
-
-unchanged_by : (mode : Mode) (sources : List Ip) (group : Ip) → changes_by mode mode group sources sources ≡ []
-unchanged_by Include sources group = ap (λ (left : List Ip). record_of_some Allow group left ++ record_of_some Block group left) (difference-itself sources)
-unchanged_by Exclude sources group = ap (λ (left : List Ip). record_of_some Allow group left ++ record_of_some Block group left) (difference-itself sources)
 
 none_of : (rows : List Membership) (groups : List Ip) → flat_map (records_on rows rows) groups ≡ []
 none_of rows [] = refl
-none_of rows (group ∷ more) = let filter = joined rows group in rw (unchanged_by filter.mode filter.sources group) (none_of rows more)
+none_of rows (group ∷ more) = let filter = joined rows group in rw (changes_on-itself filter group) (none_of rows more)
 
 -- memberships that stay as they are bring no record
 pub records_between-itself : (rows : List Membership) → records_between rows rows ≡ []
@@ -101,14 +64,14 @@ module _ (before after : List Membership) where
 
     same_records : (group : Ip) → filters_in group before ≡ filters_in group after → records_on before after group ≡ []
     same_records group same =
-        ap (λ filters. changes_on (joined before group) (merged filters) group) (sym same) ∙ unchanged_by (joined before group).mode (joined before group).sources group
+        ap (λ filters. changes_on (joined before group) (merged filters) group) (sym same) ∙ changes_on-itself (joined before group) group
 
     -- the records are those of the groups that change
     pub records_between-changed : records_between before after ≡ flat_map (records_on before after) (changed_groups changes)
     unfolding records_between
     records_between-changed =
         let groups = map (λ (membership : Membership). membership.group) in
-        flat_map-same (records_on before after) (groups_in (before ++ after)) (changed_groups changes) (IsAscending-ascending ip_order-total (groups (before ++ after)))
+        flat_map-same ip_order-total ip_order-exact (records_on before after) (groups_in (before ++ after)) (changed_groups changes) (IsAscending-ascending ip_order-total (groups (before ++ after)))
         (IsAscending-ascending ip_order-total (map (λ (change : MembershipChange). change.group) changes))
         (λ group apart.
         let parts = or_parts (has ip_order (groups before) group) (has ip_order (groups after) group)

@@ -5,7 +5,7 @@ use Rattle.amt_values.specs.{declared.address.Ip.{Ip}, EndpointValue.{EndpointVa
 use Rattle.source_filter.{specs.{Changes.{changes_on}, Filter.{FilterValue, ascending_sources}, declared.mode.Mode.{Mode, TheVariants.{Include, Exclude}}}, proofs.SourceSets.{listing}}
 use Rattle.endpoint_membership.specs.{Membership.{Membership, membership_order}, MembershipChanges.{IsChange, filter_at}, declared.membership_change.MembershipChange.{MembershipChange}}
 use Rattle.endpoint_membership.proofs.OwnFilters.{pair}
-use Rattle.amt_upstream.{specs.{Counting.{AreInOrder, AreNumbers, Numbers, number}, Looking.{IsAfter, IsSideOf, is_common, is_included, seen, seen_after, seen_by, sources_if}, Upstream.{records_on, joined}, declared.{count_key.Counted.TheVariants.{Excluder}, sides.Side.{Side}}}, proofs.{ChangedGroups.{records_on-seen}, JoinedByNumbers.{excluder-found, excludes-none, joined-common, seen-included}}}
+use Rattle.amt_upstream.{specs.{Counting.{AreInOrder, AreNumbers, Numbers, number}, Looking.{IsAfter, IsChangedGroupOf, is_common, is_included, seen, seen_after, seen_by, sources_if}, Upstream.{records_on, joined}, declared.{count_key.Counted.TheVariants.{Excluder}, changed_group.ChangedGroup.{ChangedGroup}}}, proofs.{ChangedGroups.{records_on-seen}, JoinedByNumbers.{excluder-found, excludes-none, joined-common, seen-included}}}
 
 whole_by : (mode : Mode) (named sources : List Ip) → listing Exclude sources ≡ seen_after mode named (listing Exclude sources)
 whole_by Include named sources = refl
@@ -43,7 +43,7 @@ IsAfter-none rows tally ascends numbers in_order = record {
 }
 
 -- the records of a side and what is looked at after it
-pub changed-side : (before : List Membership) (changes : List MembershipChange) (tally : Numbers) (after : List Membership) (side : Side) (mode : Mode) (found : FilterValue) → IsSideOf before changes side
+pub changed-side : (before : List Membership) (changes : List MembershipChange) (tally : Numbers) (after : List Membership) (side : ChangedGroup) (mode : Mode) (found : FilterValue) → IsChangedGroupOf before changes side
     → IsAfter before changes tally after → mode ≡ side.before.mode → found ≡ seen_after mode side.named.items (joined after side.group)
     → changes_on side.before found side.group ≡ records_on before after side.group
 changed-side before changes tally after side mode found side_is is same looked =

@@ -3,7 +3,7 @@ use Rattle.std.specs.{Prelude.{◌≡◌, ℕ, ◌==◌, nat_lt, Bool, ◌&&◌,
 use Rattle.amt_values.specs.{declared.address.Ip.{Ip}, EndpointValue.{EndpointValue}, Order.{ip_order}, Ascending.{IsAscending, ascending, intersection}}
 use Rattle.source_filter.specs.{Filter.{FilterValue}, declared.mode.Mode.{Mode, TheVariants.{Include, Exclude}}}
 use Rattle.endpoint_membership.specs.{EndpointGroup.{same_group}, Membership.{Membership, membership_order}, MembershipChanges.{AreChanges}, declared.membership_change.MembershipChange.{MembershipChange}}
-use Rattle.amt_upstream.specs.{Counting.{AreInOrder, AreNumbers, Numbers, number}, Upstream.{joined}, declared.{count_key.{Counted.{Counted, TheVariants.{Excluders, Excluder, Excluding, Including}}}, sides.Side.{Side}}}
+use Rattle.amt_upstream.specs.{Counting.{AreInOrder, AreNumbers, Numbers, number}, Upstream.{joined}, declared.{count_key.{Counted.{Counted, TheVariants.{Excluders, Excluder, Excluding, Including}}}, changed_group.ChangedGroup.{ChangedGroup}}}
 
 -- some membership excludes
 abbrev pub excludes : Numbers → Ip → Bool
@@ -61,7 +61,7 @@ seen_after Include sources filter = seen sources filter
 seen_after Exclude sources filter = filter
 
 -- a group that changes, with the sources that its changes name and what is seen of its filter before
-pub record IsSideOf (rows : List Membership) (changes : List MembershipChange) (side : Side) : Type 0 where
+pub record IsChangedGroupOf (rows : List Membership) (changes : List MembershipChange) (side : ChangedGroup) : Type 0 where
   pub named : side.named.items ≡ named_by (changes_on_group side.group changes)
   pub before : side.before ≡ seen side.named.items (joined rows side.group)
 

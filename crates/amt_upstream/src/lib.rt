@@ -13,7 +13,7 @@ mod keys;
 mod looking;
 mod reading;
 mod records;
-mod sides;
+mod changed_group;
 mod tally;
 mod upstream;
 

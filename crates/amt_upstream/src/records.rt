@@ -3,10 +3,10 @@
 ghost use Rattle.std.specs.Prelude.{◌≡◌, ◌++◌, List, All, IfOk, OnOk, map};
 ghost use Rattle.amt_values.specs.Ascending.{IsAscending};
 ghost use Rattle.endpoint_membership.specs.{Membership.{Membership, membership_order}, MembershipChanges.{AreChanges}};
-ghost use Rattle.amt_upstream.specs.{Counting.{AreInOrder, AreNumbers}, Looking.{IsAfter, IsSideOf, changed_groups}, Upstream.{records_on, records_between}};
+ghost use Rattle.amt_upstream.specs.{Counting.{AreInOrder, AreNumbers}, Looking.{IsAfter, IsChangedGroupOf, changed_groups}, Upstream.{records_on, records_between}};
 
 use crate::looking::look_after;
-use crate::sides::Side;
+use crate::changed_group::ChangedGroup;
 use crate::tally::Tally;
 use endpoint_membership::{MembershipChange, Table};
 use source_filter::{Records, diff};
@@ -19,10 +19,10 @@ pub fn changed_records(
     table: &Table,
     tally: &Tally,
     changes: &[MembershipChange],
-    sides: &[Side],
+    sides: &[ChangedGroup],
 ) -> Result<Records, AllocError>
     requires groups { map (λ side. side.group) sides.now ≡ changed_groups changes.now }
-    requires each { All (IsSideOf table.now.rows changes.now) sides.now }
+    requires each { All (IsChangedGroupOf table.now.rows changes.now) sides.now }
     ensures { (after : List Membership) → AreNumbers after tally.now.numbers → AreInOrder after
         → AreInOrder table.now.rows → AreChanges table.now.rows after changes.now
         → IsAscending membership_order table.now.rows → IsAscending membership_order after
@@ -42,9 +42,9 @@ fn push_changed(
     table: &Table,
     tally: &Tally,
     changes: &[MembershipChange],
-    side: &Side,
+    side: &ChangedGroup,
 ) -> Result<(), AllocError>
-    requires { IsSideOf table.now.rows changes.now side.now }
+    requires { IsChangedGroupOf table.now.rows changes.now side.now }
     ensures { (after : List Membership)
         → IsAfter table.now.rows changes.now tally.now.numbers after
         → OnOk result (records.new ≡ records.old ++ records_on table.now.rows after side.now.group) }

@@ -2,12 +2,12 @@
 
 ghost use Rattle.std.specs.Prelude.{◌≡◌, ◌≤◌, ◌*◌, [], ◌∷◌, ◌++◌, All, IfOk, OnOk, OnErr, map};
 ghost use Rattle.endpoint_membership.specs.Table.{AreLawful, ForLog, Holds};
-ghost use Rattle.amt_upstream.specs.{Counting.{IsCounted}, Looking.{IsSideOf, changed_groups}, Taking.{AreChangesBy, AreNumbersAfter}, Upstream.{AdmitsTheWanted, StaysWithin, changes_after, joined, upstream_filter}};
+ghost use Rattle.amt_upstream.specs.{Counting.{IsCounted}, Looking.{IsChangedGroupOf, changed_groups}, Taking.{AreChangesBy, AreNumbersAfter}, Upstream.{AdmitsTheWanted, StaysWithin, changes_after, joined, upstream_filter}};
 
 use crate::keys::{keys_after, keys_before};
 use crate::looking::look_after;
 use crate::records::changed_records;
-use crate::sides::{Side, sides_of};
+use crate::changed_group::{ChangedGroup, sides_of};
 use crate::tally::Tally;
 use amt_values::Ip;
 use endpoint_membership::{Change, Limits, MembershipChange, Table};
@@ -122,12 +122,12 @@ fn take_counted(
     tally: &Tally,
     change: &Change,
     changes: &[MembershipChange],
-    sides: &[Side],
+    sides: &[ChangedGroup],
 ) -> Result<Records, AllocError>
     requires changes { AreChangesBy table.old change.now changes.now }
     requires numbers { AreNumbersAfter table.old change.now tally.now.numbers }
     requires groups { map (λ side. side.group) sides.now ≡ changed_groups changes.now }
-    requires each { All (IsSideOf table.old.rows changes.now) sides.now }
+    requires each { All (IsChangedGroupOf table.old.rows changes.now) sides.now }
     ensures records { ForLog table.old (λ settings log. IfOk result (λ records.
         records ≡ changes_after settings log change.now)) }
     ensures stands { ForLog table.old (λ settings log. OnOk result (

@@ -1,5 +1,5 @@
 -- Ascending lists under any total order.
-use Rattle.std.proofs.{Common.{◌≡◌, ◌≤◌, suc, Bool, true, false, not, ◌&&◌, ◌||◌, List, [], ◌∷◌, ◌++◌, length, filter, refl, sym, ap, ◌∙◌, arith}, lemmas.{Cmp.{alike_right}, List.{Folds.{list_any-append}, Kept.{IsStrictlySortedBy-filter}}, Map.Keys.{sorted_tail}}}
+use Rattle.std.proofs.{Common.{◌≡◌, ◌≤◌, suc, Bool, true, false, not, cond, ◌&&◌, ◌||◌, List, [], ◌∷◌, ◌++◌, length, filter, flat_map, refl, sym, ap, ◌∙◌, arith}, lemmas.{Bool.{true≢false}, Cmp.{alike_right, tied_itself}, List.{Folds.{list_any-append}, Kept.{IsStrictlySortedBy-filter}}, Map.Keys.{sorted_tail}}}
 use Rattle.std.{proofs.lemmas.Map.{Lookups.{CmpEqualImpliesEq, btree_set_from_contains}, Views.{any-filter_same}}, specs.{Cmp.{IsTotalOrder}, List.{AllByRecursion, Sorted.{IsStrictlySortedBy}}, Ordering.{is_eq, eq_by_cmp, match_ordering, ordering_reverse}, declared.cmp.Ordering.{Ordering, TheVariants.{Less, Equal, Greater}}}}
 use Rattle.amt_values.specs.Ascending.{has, IsAscending, placed, ascending, union, difference, intersection}
 
@@ -17,6 +17,10 @@ turned true true = refl
 turned true false = refl
 turned false true = refl
 turned false false = refl
+
+never : (listed : Bool) → (listed && not listed) ≡ false
+never true = refl
+never false = refl
 
 pub Equal-from_test : (o : Ordering) → is_eq o ≡ true → o ≡ Equal
 Equal-from_test Less is = cc
@@ -113,3 +117,32 @@ module _ {K : Type 0} {order : K → K → Ordering} where
 
     pub ascending-fixed : CmpEqualImpliesEq order → (xs : List K) → IsAscending order xs → ascending order xs ≡ xs
     ascending-fixed exact xs ascends = same_ascending exact (ascending order xs) xs (IsAscending-ascending xs) ascends (has-ascending xs)
+
+    has_nothing : (xs : List K) → ((s : K) → has order xs s ≡ false) → xs ≡ []
+    has_nothing [] none = refl
+    has_nothing (x ∷ xs) none = absurd (true≢false (sym (ap (λ o. is_eq o || has order xs x) (tied_itself total x)) ∙ none x))
+
+    pub difference-itself : CmpEqualImpliesEq order → (xs : List K) → difference order xs xs ≡ []
+    difference-itself exact xs = has_nothing (difference order xs xs) (λ s. has-difference exact xs xs s ∙ never (has order xs s))
+
+module _ {A B : Type 0} (f : A → List B) where
+  left_out : (passes : Bool) (x : A) (xs : List A) → (passes ≡ false → f x ≡ []) → flat_map f (cond passes (x ∷ xs) xs) ≡ f x ++ flat_map f xs
+  left_out true x xs nothing = refl
+  left_out false x xs nothing = sym (ap (λ first. first ++ flat_map f xs) (nothing refl))
+
+  -- items that give nothing may be left out
+  flat_map-some : (test : A → Bool) → ((x : A) → test x ≡ false → f x ≡ []) → (xs : List A) → flat_map f (filter test xs) ≡ flat_map f xs
+  flat_map-some test nothing [] = refl
+  flat_map-some test nothing (x ∷ xs) = left_out (test x) x (filter test xs) (nothing x) ∙ ap (λ rest. f x ++ rest) (flat_map-some test nothing xs)
+
+module _ {K B : Type 0} {order : K → K → Ordering} (total : IsTotalOrder order) (exact : CmpEqualImpliesEq order) where
+  -- two ascending lists give the same where what is in one alone gives nothing
+  pub flat_map-same : (f : K → List B) (xs ys : List K) → IsAscending order xs → IsAscending order ys → ((x : K) → has order xs x ≡ false → f x ≡ [])
+      → ((x : K) → has order ys x ≡ false → f x ≡ []) → flat_map f xs ≡ flat_map f ys
+  flat_map-same f xs ys first second none_first none_second =
+      let common : List K = filter (has order ys) xs in
+      let turned_common : List K = filter (has order xs) ys in
+      sym (flat_map-some f (has order ys) none_second xs)
+      ∙ ap (flat_map f) (same_ascending total exact common turned_common (IsAscending-filter order (has order ys) xs first) (IsAscending-filter order (has order xs) ys second)
+      (λ s. has-filter exact (has order ys) xs s ∙ turned (has order xs s) (has order ys s) ∙ sym (has-filter exact (has order xs) ys s)))
+      ∙ flat_map-some f (has order xs) none_first ys

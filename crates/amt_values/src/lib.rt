@@ -37,4 +37,4 @@ pub use numeral::{NumeralFault, append_numeral, parse_numeral, print_numeral};
 pub use octets::{address_of_octets, octets_of_address};
 pub use order::{order_of_endpoints, order_of_ips};
 pub use peer::{AMT_PORT, Peer};
-pub use text::{parse_ip, parse_peer, print_ip, print_peer};
+pub use text::{ip_text_names, parse_ip, parse_peer, print_ip, print_peer};

@@ -75,8 +75,8 @@ fn v6_text_names(number: u128)
     ensures { IsIpText (V6 number) (v6_text number) }
 {}
 
-// What is printed of an address names it. It does nothing when it runs.
-fn text_names(ip: &Ip)
+/// What is printed of an address names it: `parse_ip` reads it as the address again. It does nothing when it runs.
+pub fn ip_text_names(ip: &Ip)
     ensures { IsIpText ip.now (ip_text ip.now) }
 {
     match *ip {
@@ -94,7 +94,7 @@ pub fn print_ip(alloc: Global, ip: &Ip) -> Result<Bytes, AllocError>
     ensures rule { (text : List ℕ) → IsPrintedIp ip.now text ↔ (text ≡ ip_text ip.now) }
     ensures back { IfOk result (IsIpText ip.now) }
 {
-    text_names(ip);
+    ip_text_names(ip);
     let mut text = Bytes::new(alloc);
     write!(text, "{ip}")?;
     Ok(text)
@@ -109,7 +109,7 @@ pub fn print_peer(alloc: Global, peer: &Peer) -> Result<Bytes, AllocError>
     ensures back { IfOk result (IsPeerText peer.now) }
 {
     let Peer { ip, port: _port } = *peer;
-    text_names(&ip);
+    ip_text_names(&ip);
     let mut text = Bytes::new(alloc);
     write!(text, "{peer}")?;
     Ok(text)

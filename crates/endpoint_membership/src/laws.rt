@@ -1,5 +1,5 @@
 //! What the definitions of a membership table mean in the words of the field.
-ghost use Rattle.std.specs.Prelude.{ℕ, ◌≡◌, ◌≤◌, ◌<◌, ◌↔◌, max, true, false, List, [], ◌∷◌, ◌++◌, reverse, Some, None, Contains};
+ghost use Rattle.std.specs.Prelude.{ℕ, ◌≡◌, ◌≤◌, ◌<◌, ◌↔◌, max, true, false, List, ◌∷◌, ◌++◌, reverse, Some, None, Contains};
 ghost use Rattle.amt_values.specs.{declared.address.Ip.{Ip}, Order.{endpoint_order}, EndpointValue.{EndpointValue}, Ascending.{IsAscending}};
 ghost use Rattle.source_filter.specs.{Filter.{admits}, declared.record.Record.{Record}};
 ghost use Rattle.endpoint_membership.specs.{Admission.{HasNoMembership, is_admitted, rows_admit}, Chain.{IsLongestChain}, Limits.{AreAtMost, IsWithin}, Log.{latest, live_chain}, EndpointGroup.{EndpointGroup}, Memberships.{is_live, rows_of, membership_at, memberships_at}, Targets.{targets_of}, Table.{ReportFits, TableSettings, limit_passed, memberships_with, memberships_without}, declared.{change.Change.{Change, TheVariants.{Clear, Mark}}, limits.Limits.{Limits}}, Membership.{Membership}};

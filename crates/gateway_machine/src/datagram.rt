@@ -1,6 +1,6 @@
 //! What a datagram comes to: its octets, its type, and the message by its own file.
 
-ghost use Rattle.std.specs.Prelude.{◌≤◌, length, IfOk, IsOk, Ok};
+ghost use Rattle.std.specs.Prelude.{◌≤◌, length, IsOk, Ok};
 ghost use Rattle.amt_messages.specs.{Messages.{IsSendable}, Refusal.{TakesMemory, message_of}};
 ghost use Rattle.socket_merge.specs.Sockets.{ForHistory};
 ghost use Rattle.gateway_machine.specs.{Answers.{datagram_answer}, Outcomes.{IsRefused}, Taken.{Replies}};

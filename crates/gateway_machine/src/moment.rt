@@ -1,6 +1,6 @@
 //! What a moment comes to.
 
-ghost use Rattle.std.specs.Prelude.{◌≡◌, ◌||◌, ◌≤◌, ◌<◌, ◌^◌, ◌↔◌, ℕ, List, max, nat_lt, IfOk, IfSome, IsOk};
+ghost use Rattle.std.specs.Prelude.{◌≡◌, ◌||◌, ◌≤◌, ◌<◌, ◌^◌, ◌↔◌, ℕ, List, max, nat_lt, IfSome, IsOk};
 ghost use Rattle.socket_merge.specs.{Sockets.{ForHistory}, History.{AcceptedCall}};
 ghost use Rattle.gateway_machine.specs.{Answers.{answer_at, is_idle}, Due.{IsBefore}, Exchange.{moved}, declared.{outcome.GatewayOutcome.TheVariants.{Quiet}, settings.GatewaySettings.{GatewaySettings}}, Outcomes.{IsAtRest}, Taken.{Replies}};
 

@@ -1,6 +1,6 @@
 //! What an event comes to before it is taken: the reply, and the sockets after it, where they are others.
 
-ghost use Rattle.std.specs.Prelude.{◌≡◌, Option, IfOk, IfSome, IsOk, unwrap_or};
+ghost use Rattle.std.specs.Prelude.{◌≡◌, IfOk, IfSome, IsOk, unwrap_or};
 ghost use Rattle.socket_merge.specs.Sockets.{ForHistory};
 ghost use Rattle.gateway_machine.specs.{Answers.{call_in, event_answer, is_opening}, Events.{IsDraw, IsEventOf}, Outcomes.{NeedsNoMemory}, Refusals.{refusal_in}, Taken.{IsTaken, IsTakenCall}};
 

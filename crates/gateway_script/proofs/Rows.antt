@@ -1,7 +1,7 @@
 -- A line is of one kind.
 use Rattle.std.proofs.Common.{◌≡◌, ℕ, List, [], ◌∷◌, ◌++◌, Some, refl}
 use Rattle.script_lines.proofs.WordTables.{first_kind, one_kind, one_rest}
-use Rattle.gateway_script.specs.{declared.kind.{Key.{Key, TheVariants.{Family, Discovery, Source, Relay, Port, Nonce}}, LineKind.{LineKind}}, Row.{words_of}}
+use Rattle.gateway_script.specs.{declared.kind.{Key.TheVariants.{Family, Discovery, Source, Relay, Port, Nonce}, LineKind.{LineKind}}, Row.{words_of}}
 use Rattle.gateway_script.specs.declared.kind.LineKind.TheVariants as kinds
 
 abbrev all_kinds : List LineKind

@@ -1,6 +1,6 @@
 //! The kinds of lines of a gateway's script, by their first words. It reads no value.
 
-ghost use Rattle.std.specs.Prelude.{◌≡◌, ◌≢◌, ◌≤◌, ◌↔◌, length, IsTrue, ◌∷◌, ◌++◌, [], codes, IfSome, IfNone, IfOk, IsErrOf};
+ghost use Rattle.std.specs.Prelude.{◌≡◌, ◌≢◌, ◌≤◌, length, ◌∷◌, ◌++◌, [], codes, IfSome, IfNone, IfOk, IsErrOf};
 ghost use Rattle.gateway_script.specs.{declared.kind.Key.{Key as KeyValue}, Row.{key_word, words_of, IsUnknown}};
 ghost use Rattle.script_lines.specs.Lines.{fields};
 
@@ -18,7 +18,7 @@ pub enum Key {
 }
 
 impl Key {
-    ghost use Rattle.std.specs.Prelude.{◌≡◌, string_bytes};
+    ghost use Rattle.std.specs.Prelude.{◌≡◌};
     ghost use Rattle.gateway_script.specs.Row.{key_word};
 
     /// The word after `set`.

@@ -1,10 +1,10 @@
 //! What a line of a gateway's script says after the lines before it. It knows no text.
 
-ghost use Rattle.std.specs.Prelude.{◌≡◌, ◌≤◌, ◌∷◌, ◌++◌, Option, Ok, Err, length, IfOk, IfErr, MatchResult};
+ghost use Rattle.std.specs.Prelude.{◌≡◌, ◌≤◌, ◌∷◌, ◌++◌, Ok, Err, length, IfOk, IfErr, MatchResult};
 ghost use Rattle.amt_values.specs.Conditions.{First};
 ghost use Rattle.script_lines.specs.{Lines.{fields}, Reading.{FailsFirst}};
 ghost use Rattle.gateway_script.specs.declared.kind.LineKind.TheVariants as kinds;
-ghost use Rattle.gateway_script.specs.{Fault.{FailsAfter, FailsAs, order_of_reasons, order_of_values}, Reading.{FailsToSet, IsEventBy, IsEventKind}, Row.{words_of}, Says.{SaysEvent, SaysSetting}, Script.{MaySet, SaysAfter}, Setting.{key_of}, Settling.{family_given}};
+ghost use Rattle.gateway_script.specs.{Fault.{FailsAfter, FailsAs, order_of_reasons, order_of_values}, Reading.{FailsToSet, IsEventBy, IsEventKind}, Row.{words_of}, Says.{SaysEvent, SaysSetting}, Script.{MaySet, SaysAfter}, Setting.{key_of}};
 
 use crate::call_line::{read_change, read_close, read_leave, read_open};
 use crate::kind::{Key, LineKind, NoKind, kind_of_line};

@@ -1,6 +1,6 @@
 //! The texts of what an event came to. It knows no step.
 
-ghost use Rattle.std.specs.Prelude.{◌≡◌, ◌++◌, decimal, OnOk, OnErr};
+ghost use Rattle.std.specs.Prelude.{◌≡◌, ◌++◌, OnOk, OnErr};
 ghost use Rattle.gateway_machine.specs.declared.outcome.Ignored.TheVariants.{Nonce as NonceCause};
 ghost use Rattle.gateway_script.specs.Texts.{ignored_text, outcome_text, socket_refusal_text};
 

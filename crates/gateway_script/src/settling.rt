@@ -1,6 +1,6 @@
 //! The settings of a gateway from those given, with the defaults. It knows no line.
 
-ghost use Rattle.std.specs.Prelude.{◌≡◌, ◌≤◌, IfSome, IfNone};
+ghost use Rattle.std.specs.Prelude.{◌≡◌, IfSome, IfNone};
 ghost use Rattle.gateway_script.specs.{Fault.{LacksSetting}, Setting.{set_at}, Settling.{Settles, discovery_in, family_given, is_v6, nonce_in, port_in, relay_in, source_in}};
 
 use crate::kind::Key;

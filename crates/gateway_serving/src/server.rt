@@ -1,6 +1,5 @@
 //! A running gateway: its machine, and what is kept of its run.
-ghost use Rattle.std.specs.Prelude.{◌≡◌, ◌≤◌, ◌+◌, ◌*◌, length};
-ghost use Rattle.std.proofs.Props.{props};
+ghost use Rattle.std.specs.Prelude.{◌≡◌, ◌≤◌, ◌*◌, length};
 ghost use Rattle.gateway_machine.specs.Runs.{GatewayAt, settings_of};
 ghost use Rattle.gateway_serving.specs.Courses.{events_so_far};
 

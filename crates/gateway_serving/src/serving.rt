@@ -1,5 +1,4 @@
 //! A whole run of a gateway.
-ghost use Rattle.std.specs.Prelude.{◌≡◌, ◌≤◌, length};
 ghost use Rattle.amt_ports.specs.Devices.{WaitsBriefly, feed_at, link_at, out_at, words_at};
 ghost use Rattle.gateway_serving.specs.{Devices.{devices_seen}, Serving.{Serves}, Settings.{AreTurns, IsLawfulConfig}};
 

@@ -1,6 +1,6 @@
 //! The header of an IPv4 datagram is read here.
 
-ghost use Rattle.std.specs.Prelude.{◌≡◌, ◌≤◌, ◌∷◌, ◌++◌, [], length, IfOk};
+ghost use Rattle.std.specs.Prelude.{◌≡◌, ◌≤◌, ◌∷◌, [], length, IfOk};
 ghost use Rattle.amt_values.specs.Conditions.{first_holding, unless};
 ghost use Rattle.inner_datagrams.specs.{Fault.{faults4, fragment, header_faults, header_length_faults, length_faults, other_protocol, wrong_header_sum}, Header.{header_octets}, Reading.{inner4_at}};
 

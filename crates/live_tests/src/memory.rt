@@ -1,5 +1,5 @@
 //! Clocks, random words, feeds and links in memory. It knows public calls alone.
-ghost use Rattle.std.specs.Prelude.{◌≡◌, ◌≤◌, All, IfOk, length};
+ghost use Rattle.std.specs.Prelude.{◌≤◌, All, IfOk, length};
 ghost use Rattle.amt_ports.specs.Arrivals.{IsShortAnswer, IsShortFeedAnswer};
 
 use amt_ports::*;

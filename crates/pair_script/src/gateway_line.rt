@@ -1,8 +1,7 @@
 //! The lines that give gateways. It knows no other line.
 
 ghost use Rattle.std.specs.Prelude.{◌≡◌, ◌≢◌, ◌↔◌, ◌∷◌, [], IsTrue, Some, length, codes, IfOk, IfErr, IfSome, IfNone};
-ghost use Rattle.amt_values.specs.Conditions.{First};
-ghost use Rattle.script_lines.specs.{Lines.{fields}, Reading.{FailsFirst}, Form.{IsAddressText, IsFamilyText}};
+ghost use Rattle.script_lines.specs.{Lines.{fields}, Reading.{FailsFirst}};
 ghost use Rattle.pair_script.specs.{Fault.{FailsAsGateway, FailsToAdd, HasNoFamily, IsGivenTwice, RepeatsPeer, order_of_reasons, order_of_values}, Says.{SaysGateway}, Script.{MayAdd}};
 
 use crate::given::{gateway_named, is_peer_given};

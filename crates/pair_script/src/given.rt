@@ -1,7 +1,6 @@
 //! The gateways that lines have given. It knows no line.
 
 ghost use Rattle.std.specs.Prelude.{◌≡◌, option_copied};
-ghost use Rattle.gateway_machine.specs.Answers.{same_peer};
 ghost use Rattle.socket_merge.specs.History.{same_name};
 ghost use Rattle.pair_script.specs.Gateways.{family_of, gateway_named, is_peer_given};
 

@@ -2,10 +2,9 @@
 //! no gateway.
 
 ghost use Rattle.std.specs.Prelude.{◌∷◌, ℕ, List, IfOk, IfErr};
-ghost use Rattle.amt_values.specs.Conditions.{First};
 ghost use Rattle.amt_script.specs.{Fault.{FailsAs as RelayFails}, Says.{SaysItem as RelaySays}};
 ghost use Rattle.amt_script.specs.declared.kind.Kind.TheVariants as kinds;
-ghost use Rattle.script_lines.specs.{Form.{IsMomentText}, Lines.{fields}, Reading.{FailsFirst}};
+ghost use Rattle.script_lines.specs.{Lines.{fields}, Reading.{FailsFirst}};
 ghost use Rattle.pair_script.specs.{Fault.{FailsAsNumber, order_of_reasons}, Opening.{opening_word}, Reading.{IsNumberOf, IsSharedEvent, IsSharedItem}, Says.{SaysEventAfter, SaysItemAfter}, declared.script.PairGateway.{PairGateway as GatewayValue}};
 ghost use Rattle.amt_script.specs.declared.script.RelayItem.TheVariants as relay_items;
 ghost use Rattle.pair_script.specs.declared.opening.Opening.TheVariants as openings;

@@ -1,6 +1,6 @@
 //! What a line of a pair's script says after the lines before it. It knows no text.
 
-ghost use Rattle.std.specs.Prelude.{◌≡◌, ◌≤◌, ◌∷◌, length, IfOk, IfErr};
+ghost use Rattle.std.specs.Prelude.{◌≤◌, ◌∷◌, length, IfOk, IfErr};
 ghost use Rattle.script_lines.specs.{Lines.{fields}, Reading.{FailsFirst}};
 ghost use Rattle.pair_script.specs.{Fault.{FailsAfter, FailsAfterOpening, order_of_reasons}, Opening.{opening_word}, Script.{SaysAfter}};
 

@@ -6,7 +6,6 @@
 //! the rule of a book that all of them have seen a part of.
 ghost use Rattle.std.specs.Prelude.{◌≡◌, ◌≤◌, [], ◌∷◌, ◌++◌, List, length, map, MatchResult};
 ghost use mathlib.Core.List.{IsPrefix};
-ghost use Rattle.endpoint_membership.specs.declared.change.Change.{Change as Entry};
 ghost use Rattle.logbook.specs.Pages.{Cell};
 ghost use Rattle.published_table.specs.{History.{IsKept, IsUnder, AreUnder, head_of}, Lists.{BeginsWithEach}, Logs.{entries}, Told.{logs_told}};
 

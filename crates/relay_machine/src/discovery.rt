@@ -1,5 +1,5 @@
 //! What a Discovery is answered. It knows neither table nor secret.
-ghost use Rattle.std.specs.Prelude.{◌≡◌, [], ◌∷◌, IfOk, None};
+ghost use Rattle.std.specs.Prelude.{IfOk};
 ghost use Rattle.endpoint_membership.specs.Table.{TableValue, TableSettings};
 ghost use Rattle.relay_machine.specs.{EventAnswer.{replied}, Logs.{AnswersByLog}, Sends.{AreShort}};
 

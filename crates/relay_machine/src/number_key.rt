@@ -1,5 +1,5 @@
 //! The settings that are one number each: their table. It doesn't know where settings keep them.
-ghost use Rattle.std.specs.Prelude.{◌≡◌, ◌≤◌, ◌↔◌, IsTrue};
+ghost use Rattle.std.specs.Prelude.{◌≡◌, ◌↔◌, IsTrue};
 ghost use Rattle.relay_machine.specs.Settings.{IsInKeyRange, number_row};
 
 /// A setting that is one number.

@@ -1,7 +1,7 @@
 //! What the steps of a relay hand out, all together.
 ghost use Rattle.std.specs.Prelude.{ℕ, ◌≡◌, List, [], ◌∷◌, ◌++◌, take};
 ghost use Rattle.response_mac.specs.declared.secret.Secret.{Secret};
-ghost use Rattle.endpoint_membership.specs.{Limits.{IsWithin}, Published.{AnswerAlike, IsPublishedPart}, Table.{memberships_now}, declared.change.Change.{Change}};
+ghost use Rattle.endpoint_membership.specs.{Limits.{IsWithin}, Published.{AnswerAlike, IsPublishedPart}, Table.{memberships_now}};
 ghost use Rattle.relay_machine.specs.{Accepted.{accepted_log, change_of, with_change}, Published.{published_log}, Settings.{AreLawfulSettings, membership_interval_ms, table_settings_of}, declared.{event.Event.{Event}, settings.Settings.{Settings}}};
 
 /// The entries that steps hand out are the published log, in order. It tells what the accepted log of the

@@ -1,5 +1,5 @@
 //! How late it is, and when a new secret is due.
-ghost use Rattle.std.specs.Prelude.{◌≡◌, ◌<◌, ◌^◌, None, Some, max};
+ghost use Rattle.std.specs.Prelude.{◌≡◌, ◌<◌, None, Some, max};
 ghost use Rattle.relay_serving.specs.Turns.{is_due, renewed_after};
 
 use amt_values::Moment;

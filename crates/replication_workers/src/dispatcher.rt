@@ -1,5 +1,5 @@
 //! What gives jobs to slots: to workers, each in a thread of its own, or to replicators on the calling thread.
-ghost use Rattle.std.specs.Prelude.{◌≡◌, ◌≤◌, ◌^◌, length, map};
+ghost use Rattle.std.specs.Prelude.{◌≤◌, ◌^◌, length, map};
 ghost use Rattle.replication_workers.specs.{Gathering.{HasRoom, IsFresh}, KeptSlots.{AreThreaded, state_of}, SlotStates.{jobs_in_all}};
 
 use crate::batch::Batch;

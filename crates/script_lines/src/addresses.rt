@@ -1,6 +1,6 @@
 //! Addresses and peers, put at the end of a text.
 
-ghost use Rattle.std.specs.Prelude.{◌≡◌, ◌++◌, codes, decimal, OnOk};
+ghost use Rattle.std.specs.Prelude.{◌≡◌, ◌++◌, decimal, OnOk};
 ghost use Rattle.amt_values.specs.Text.{ip_text, peer_text, v4_text};
 
 use amt_values::{Bytes, Ip, Peer, append_numeral};

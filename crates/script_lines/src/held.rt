@@ -1,6 +1,6 @@
 //! Text that is held back until there is much of it. It knows sinks by their trait alone.
 
-ghost use Rattle.std.specs.{Prelude.{◌≡◌, ◌<◌, ◌++◌, [], length, OnOk, OnErr, IfErr}, Io.KnownBytes.{Appends}};
+ghost use Rattle.std.specs.{Prelude.{◌≡◌, ◌<◌, [], length, OnOk, OnErr, IfErr}, Io.KnownBytes.{Appends}};
 ghost use Rattle.script_lines.specs.{declared.held.TheConstants.{HELD_SIZE}, Counting.{CountsWrites}, Writing.{WritesPrefix, WritesUpTo}};
 
 use crate::fault::RunFault;

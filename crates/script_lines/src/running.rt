@@ -1,6 +1,6 @@
 //! A run over the items of a script, and what is written of it. It knows no item, and sinks by their trait alone.
 
-ghost use Rattle.std.specs.{Prelude.{◌≡◌, ℕ, List, [], ◌∷◌, ◌++◌, OnOk, OnErr}, Io.KnownBytes.{Appends}};
+ghost use Rattle.std.specs.{Prelude.{ℕ, List, [], ◌∷◌, ◌++◌, OnOk, OnErr}, Io.KnownBytes.{Appends}};
 ghost use Rattle.script_lines.specs.{Counting.{CountsWrites}, Running.{After, MayRun, MayTake, script_text}, Texts.{closing_text}, Writing.{WritesPrefix, WritesUpTo}};
 
 use crate::fault::RunFault;

@@ -1,6 +1,6 @@
 //! Fields that are numbers, octets, secrets and addresses. It knows no kind of line.
 
-ghost use Rattle.std.specs.Prelude.{◌≡◌, ◌≤◌, ◌<◌, ◌^◌, ◌⊎◌, ℕ, List, IfOk, IfErr, IfSome, IfNone, IsErrOf, IsTrue, Some, ◌↔◌};
+ghost use Rattle.std.specs.Prelude.{◌≡◌, ◌<◌, ◌⊎◌, IfOk, IfErr, IfSome, IfNone, IsErrOf, IsTrue, Some, ◌↔◌};
 ghost use Rattle.amt_values.specs.{declared.address.Ip.{Ip as IpValue, TheVariants.{V4, V6}}, Numeral.{IsNumeral}, Text.{IsIpText}};
 ghost use Rattle.script_lines.specs.{Texts.{mode_text}, Form.{Fails, IsAddressText, IsFamilyText, IsGroupText, IsHexText, IsModeText, IsMomentText, IsName, IsNameOctet, IsNonceText, IsNumberText, IsSecretText, a_family, a_group, a_mode, a_moment, a_nonce, a_number, a_secret, an_address4, an_address6, an_address_of, is_of, some_octets}};
 

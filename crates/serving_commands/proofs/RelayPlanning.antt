@@ -1,5 +1,5 @@
 -- The plan of a settings file and a command is lawful.
-use Rattle.std.proofs.Common.{◌≡◌, ℕ, ◌≤◌, List, codes, Option, None, Some, unwrap_or, inl, inr, subst, sym, arith}
+use Rattle.std.proofs.Common.{ℕ, ◌≤◌, List, codes, Option, None, Some, unwrap_or, inl, inr, subst, sym, arith}
 use Rattle.toml.specs.Data.{Members}
 use Rattle.relay_machine.specs.{Settings.{AreLawfulSettings}, declared.number_key.NumberRange.{NumberRange}}
 use Rattle.relay_serving.specs.Plans.{IsLawfulPlan}

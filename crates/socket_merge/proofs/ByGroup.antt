@@ -1,11 +1,11 @@
 -- Which groups have sockets, and were opened; sums and texts by group.
-use Rattle.std.proofs.Common.{◌≡◌, ℕ, ◌+◌, Bool, true, false, not, ◌&&◌, ◌||◌, cond, List, [], ◌∷◌, ◌++◌, filter, length, map, Option, Some, None, if◌then◌else◌, refl, sym, ap, ◌∙◌, arith}
+use Rattle.std.proofs.Common.{◌≡◌, ℕ, ◌+◌, Bool, true, false, not, ◌||◌, cond, List, [], ◌∷◌, ◌++◌, filter, length, map, Option, Some, None, if◌then◌else◌, refl, sym, ap, ◌∙◌, arith}
 use Rattle.std.{proofs.lemmas.{Bool.{cond_both, false_from_ne_true, or_right}, Cmp.{eq_by_cmp_equiv}, List.{Folds.{list_any_none}, Elements.{All-from_recursion, All-filter, All-head, All-map, All-nil, All-push, All-tail, All-weaker}, Sums.{sum_by-cons}}, Map.Keys.{IsDistinct-head, IsDistinct-tail}}, specs.List.{All, IsDistinct, flat_map, list_any, sum_by}}
 use Rattle.std.specs.Ordering.{eq_by_cmp}
-use Rattle.amt_values.{specs.{declared.address.Ip.{Ip}, Order.{ip_order}, Ascending.{IsAscending, has}}, proofs.{Orders.{ip_order-exact, ip_order-total}, AscendingLaws.{IsAscending-filter, has-append, has-filter, same_ascending}}}
+use Rattle.amt_values.{specs.{declared.address.Ip.{Ip}, Order.{ip_order}, Ascending.{has}}, proofs.{Orders.{ip_order-total}, AscendingLaws.{has-append}}}
 use Rattle.socket_merge.specs.{FullReport.{is_empty}, History.{AcceptedCall, Change, Close, LeaveAll, Open, Socket, SocketCall, group_opened, groups_opened, open_sockets, refiltered, sockets_after}, Interface.{is_wanted, left_at, on_group, same_group}, Kept.{has_socket, listed, listed_on}}
 use Rattle.source_filter.specs.{Filter.{wants_any}, Merging.{merged}}
-use Rattle.socket_merge.{specs.Interface.{filters_on}, proofs.{Amounts.{has_name, listing, with_filter}, Wanted.{All-has, same_group-exact, same_group-itself, some_item, wants_any-merged}}}
+use Rattle.socket_merge.{specs.Interface.{filters_on}, proofs.{Amounts.{has_name, listing, with_filter}, Wanted.{All-has, same_group-exact, same_group-itself, wants_any-merged}}}
 
 -- the group of a socket
 abbrev pub group_of : Socket → Ip
@@ -106,26 +106,6 @@ pub flat_map-filter : {X : Type 0} (f : Ip → List X) (test : Ip → Bool) (gro
 flat_map-filter f test [] = refl
 flat_map-filter f test (group ∷ more) =
     first_of (test group) f group (filter test more) ∙ ap (λ later. cond (test group) (f group) [] ++ later) (flat_map-filter f test more)
-
-items_or : {X : Type 0} (here : List X) → cond (some_item here) here [] ≡ here
-items_or [] = refl
-items_or (x ∷ xs) = refl
-
-passing : {X : Type 0} (listed : Bool) (here : List X) → (listed ≡ false → here ≡ []) → (listed && some_item here) ≡ some_item here
-passing true here none = refl
-passing false here none = sym (ap some_item (none refl))
-
--- what is said of the groups of two lists is the same, where nothing is said of others
-pub flat_map-same : {X : Type 0} (f : Ip → List X) (xs ys : List Ip) → IsAscending ip_order xs → IsAscending ip_order ys → ((group : Ip) → has ip_order xs group ≡ false → f group ≡ [])
-    → ((group : Ip) → has ip_order ys group ≡ false → f group ≡ []) → flat_map f xs ≡ flat_map f ys
-flat_map-same f xs ys first second in_first in_second =
-    let some : Ip → Bool = λ group. some_item (f group) in
-    let all : (groups : List Ip) → flat_map f (filter some groups) ≡ flat_map f groups = λ groups. flat_map-filter f some groups ∙ (λ i. flat_map (λ group. items_or (f group) i) groups) in
-    sym (all xs)
-    ∙ ap (flat_map f) (same_ascending ip_order-total ip_order-exact (filter some xs) (filter some ys) (IsAscending-filter ip_order some xs first) (IsAscending-filter ip_order some ys second)
-    (λ group. has-filter ip_order-exact some xs group ∙ passing (has ip_order xs group) (f group) (in_first group)
-    ∙ sym (has-filter ip_order-exact some ys group ∙ passing (has ip_order ys group) (f group) (in_second group))))
-    ∙ all ys
 
 -- ---- sums over groups
 

@@ -1,10 +1,10 @@
 -- The change records from some sockets to others: those of calls, and whose they are.
 use Rattle.std.{proofs.{Common.{◌≡◌, ℕ, true, false, not, cond, List, [], ◌∷◌, ◌++◌, filter, map, refl, sym, ap, subst, ◌∙◌}, lemmas.{Bool.{or_parts}, List.{map-append, Elements.{All-append, All-cons, All-filter, All-nil}}}}, specs.List.{All, flat_map}}
-use Rattle.amt_values.{specs.{declared.address.Ip.{Ip}, Group.{is_forwardable}, Order.{ip_order}, Ascending.{ascending, difference, has}}, proofs.{Orders.{ip_order-total}, AscendingLaws.{IsAscending-ascending, has-append, has-ascending}}}
+use Rattle.amt_values.{specs.{declared.address.Ip.{Ip}, Group.{is_forwardable}, Order.{ip_order}, Ascending.{ascending, difference, has}}, proofs.{Orders.{ip_order-exact, ip_order-total}, AscendingLaws.{flat_map-same, IsAscending-ascending, has-append, has-ascending}}}
 use Rattle.source_filter.specs.{Changes.{changes_by, changes_on, record_of_some}, Filter.{FilterValue}, Merging.{merged}, declared.mode.Mode.{Mode, TheVariants.{Include, Exclude}}, declared.record.{Record.{Record}, RecordKind.{RecordKind, TheVariants.{ToIn, ToEx, Allow, Block}}}}
 use Rattle.group_records.specs.{Written.{IsOfFamily, is_of_family}, declared.family.Family.{Family}}
 use Rattle.socket_merge.specs.{Changes.{change_records, changed_on, changes_between}, FullReport.{is_empty}, History.{AcceptedCall, Socket, SocketCall, group_opened, groups_opened, moment_read, open_sockets, with_call}, Interface.{filters_on, on_group}, Kept.{IsLawful, has_socket}, Sockets.{SocketsHold, SocketsValue}}
-use Rattle.socket_merge.proofs.{ByGroup.{flat_map-filter, flat_map-same, group_of, has_socket-listed, unopened}, Reports.{All-said, merged_of_family, nothing_of}}
+use Rattle.socket_merge.proofs.{ByGroup.{flat_map-filter, group_of, has_socket-listed, unopened}, Reports.{All-said, merged_of_family, nothing_of}}
 
 -- ---- which groups give no record
 
@@ -39,7 +39,7 @@ changes-by family before after groups none =
     let nothing : (group : Ip) → (has_socket group before ≡ false) × (has_socket group after ≡ false) → said group ≡ [] =
     λ group both. nothing_of family group (changed group) (unchanged before after group both.0 both.1) in
     flat_map-filter changed (is_of_family family) (ascending ip_order listed)
-    ∙ flat_map-same said (ascending ip_order listed) (ascending ip_order groups) (IsAscending-ascending ip_order-total listed) (IsAscending-ascending ip_order-total groups)
+    ∙ flat_map-same ip_order-total ip_order-exact said (ascending ip_order listed) (ascending ip_order groups) (IsAscending-ascending ip_order-total listed) (IsAscending-ascending ip_order-total groups)
     (λ group absent. nothing group (none_listed before after group (sym (has-ascending ip_order-total listed group) ∙ absent)))
     (λ group absent. nothing group (none group (sym (has-ascending ip_order-total groups group) ∙ absent)))
     ∙ sym (flat_map-filter changed (is_of_family family) (ascending ip_order groups))

@@ -1,11 +1,11 @@
 -- What a full report says by the slots, whose records it has, and how long it is.
 use Rattle.std.proofs.Common.{◌≡◌, ℕ, ◌+◌, ◌*◌, ◌≤◌, min, Bool, true, false, ◌||◌, cond, is_some, List, [], ◌∷◌, ◌++◌, filter, length, map, Option, Some, None, refl, sym, ap, subst, ◌∙◌, append-nil, arith}
 use Rattle.std.{specs.{List.{All, flat_map, list_any, sum_by}}, proofs.lemmas.{Bool.{cond_both, ltb-true, le-leb, or_parts, or_right}, List.{Concat.{flat_map-append}, Elements.{All-append, All-cons, All-head, All-nil, All-tail}, Folds.{Any-from_list_any, flat_map-map, fold-map, list_any-from_Any}, Sums.{sum_by-append, sum_by-cons, sum_by-le-sum_by}}}}
-use Rattle.amt_values.{specs.{declared.address.Ip.{Ip}, Group.{is_forwardable}, Order.{ip_order}, Ascending.{ascending, has}}, proofs.{Orders.{ip_order-total}, AscendingLaws.{IsAscending-ascending, has-ascending}}}
+use Rattle.amt_values.{specs.{declared.address.Ip.{Ip}, Group.{is_forwardable}, Order.{ip_order}, Ascending.{ascending, has}}, proofs.{Orders.{ip_order-exact, ip_order-total}, AscendingLaws.{flat_map-same, IsAscending-ascending, has-ascending}}}
 use Rattle.source_filter.specs.{Filter.{FilterValue, wants_any}, Merging.{merged}, declared.record.Record.{Record}}
 use Rattle.group_records.specs.{Family.{width}, Reading.{head_length}, Written.{IsOfFamily, is_of_family, report_length}, declared.family.Family.{Family, TheVariants.{V4, V6}}}
 use Rattle.socket_merge.specs.{FullReport.{farewell, full_on, full_report_of, groups_of, is_recent, longest_farewell, states}, History.{AcceptedCall, Socket, groups_opened, latest, open_sockets}, Interface.{filters_on, interface, is_wanted, left_at, on_group, same_group}, Kept.{IsLawful, farewells_in, has_socket, said_of, said_on, slots_of, some_recent}, Refusal.{family_of, has_place, may_be_due, raw_report_length, raw_sources}, Sockets.{AreOfGroup, left_in}}
-use Rattle.socket_merge.proofs.{Amounts.{listing, sum_by-on_group}, ByGroup.{flat_map-filter, flat_map-same, group_of, opened-left, unopened, wanted-some}, HoldsAfter.{Stands, is_recent-kept}, RawOctets.{family_is, raw-sum, raw_here, raw_sources-listed}, Slots.{farewell_group, groups_in, has-groups}, Wanted.{All-ascending, All-merged, any-map, length-merged, same_group-exact, source_number}}
+use Rattle.socket_merge.proofs.{Amounts.{listing, sum_by-on_group}, ByGroup.{flat_map-filter, group_of, opened-left, unopened, wanted-some}, HoldsAfter.{Stands, is_recent-kept}, RawOctets.{family_is, raw-sum, raw_here, raw_sources-listed}, Slots.{farewell_group, groups_in, has-groups}, Wanted.{All-ascending, All-merged, any-map, length-merged, same_group-exact, source_number}}
 
 -- ---- by groups
 
@@ -167,7 +167,7 @@ full_report-is family history slots at keep back stands onward =
     let said : Ip → List Record = λ group. said_of family sockets at keep (group, left group) in
     ap (flat_map (said_of family sockets at keep)) (sym back)
     ∙ flat_map-map (said_of family sockets at keep) (with_left left) groups
-    ∙ flat_map-same said groups opened (IsAscending-ascending ip_order-total (map group_of sockets ++ map farewell_group (farewells_in slots))) (IsAscending-ascending ip_order-total (groups_opened history))
+    ∙ flat_map-same ip_order-total ip_order-exact said groups opened (IsAscending-ascending ip_order-total (map group_of sockets ++ map farewell_group (farewells_in slots))) (IsAscending-ascending ip_order-total (groups_opened history))
     (λ group absent. let none = or_parts (has_socket group sockets) (is_some (left group)) (sym (has-groups sockets (farewells_in slots) group) ∙ absent) in
     nothing_of family group _ (no_socket sockets group at keep (left group) none.0 (none_kept (left group) none.1)))
     (λ group absent. let none = sym (has-ascending ip_order-total (groups_opened history) group) ∙ absent in

@@ -1,10 +1,10 @@
 -- The change records of one call make a report of at most 1,400 octets.
-use Rattle.std.{proofs.{Common.{◌≡◌, ℕ, ◌+◌, ◌*◌, ◌≤◌, Bool, true, false, not, ◌&&◌, ◌||◌, cond, List, [], ◌∷◌, ◌++◌, filter, length, map, Option, Some, None, refl, sym, ap, subst, ◌∙◌, arith}, lemmas.{Bool.{cond_both, or_left}, List.{Sums.{sum_by-append, sum_by-cons, sum_by-le-sum_by}}, Map.Keys.{IsDistinct-from_sorted}}}, specs.List.{count_by, sum_by}}
-use Rattle.amt_values.{specs.{declared.address.Ip.{Ip, TheVariants.{V4 as Address4}}, Order.{ip_order}, Ascending.{ascending, difference, has}}, proofs.{Orders.{ip_order-exact, ip_order-total}, AscendingLaws.{IsAscending-ascending, has-difference}}}
-use Rattle.source_filter.specs.{Changes.{changes_by, changes_on, record_of_some}, Merging.{merged}, declared.mode.Mode.{Mode, TheVariants.{Include, Exclude}}, declared.record.{Record.{Record}, RecordKind.{RecordKind, TheVariants.{ToIn, ToEx, Allow, Block}}}}
+use Rattle.std.{proofs.{Common.{◌≡◌, ℕ, ◌+◌, ◌*◌, ◌≤◌, Bool, true, false, not, ◌||◌, cond, List, [], ◌∷◌, ◌++◌, filter, length, map, Option, Some, None, refl, sym, ap, subst, ◌∙◌, arith}, lemmas.{Bool.{cond_both}, List.Sums.{sum_by-append, sum_by-cons, sum_by-le-sum_by}, Map.Keys.{IsDistinct-from_sorted}}}, specs.List.{count_by, sum_by}}
+use Rattle.amt_values.{specs.{declared.address.Ip.{Ip, TheVariants.{V4 as Address4}}, Order.{ip_order}, Ascending.{ascending, difference, has}}, proofs.{Orders.{ip_order-total}, AscendingLaws.{IsAscending-ascending}}}
+use Rattle.source_filter.{specs.{Changes.{changes_by, changes_on, record_of_some}, Merging.{merged}, declared.mode.Mode.{Mode, TheVariants.{Include, Exclude}}, declared.record.{Record.{Record}, RecordKind.{RecordKind, TheVariants.{ToIn, ToEx, Allow, Block}}}}, proofs.Unchanged.{changes_on-itself}}
 use Rattle.group_records.specs.{Family.{width}, Reading.{head_length}, Written.{is_of_family, report_length}, declared.family.Family.{Family, TheVariants.{V4, V6}}}
 use Rattle.socket_merge.specs.{Changes.{IsOneCallAfter, change_records, changed_on, changes_between}, History.{AcceptedCall, Change, Close, LeaveAll, Open, Socket, SocketCall, latest, open_sockets, socket_named, sockets_after}, Interface.{filters_on, left_at, on_group, same_group}, Kept.{IsLawful, has_socket}, Refusal.{may_be_due, raw_report_length, raw_sources}}
-use Rattle.socket_merge.proofs.{Amounts.{HasName, HasName-of, has_name, kept-changed, kept-closed, none_passes, unnamed}, ByGroup.{flat_map-filter, group_of, same_group-turned, sum-one}, Changed.{changes-are, unchanged}, Lawful.{AreOthersKept, kept-opened}, RawOctets.{raw_here}, Reports.{merged-few, nothing_of, octets_of_record, record_less, short-said, sum_by-flat_map}, Wanted.{length-filter_le, same_group-itself}}
+use Rattle.socket_merge.proofs.{Amounts.{HasName, HasName-of, has_name, kept-changed, kept-closed, none_passes, unnamed}, ByGroup.{flat_map-filter, group_of, same_group-turned, sum-one}, Changed.{changes-are, unchanged}, Lawful.{AreOthersKept, kept-opened}, RawOctets.{raw_here}, Reports.{merged-few, nothing_of, octets_of_record, record_less, short-said, sum_by-flat_map}, Wanted.{length-filter_le}}
 
 -- ---- how long the records of one group are
 
@@ -57,26 +57,11 @@ module _ (family : Family) (group : Ip) where
 
 -- ---- a call that changes one group
 
-none-has : (sources : List Ip) → ((source : Ip) → has ip_order sources source ≡ false) → sources ≡ []
-none-has [] none = refl
-none-has (first ∷ more) none = let here = or_left (same_group first first) (has ip_order more first) (same_group-itself first) in let absent = none first in absurd cc
-
-both_no : (test : Bool) → (test && not test) ≡ false
-both_no true = refl
-both_no false = refl
-
-difference-itself : (sources : List Ip) → difference ip_order sources sources ≡ []
-difference-itself sources = none-has (difference ip_order sources sources) (λ source. has-difference ip_order-exact sources sources source ∙ both_no (has ip_order sources source))
-
-pub changes-itself : (mode : Mode) (sources : List Ip) (group : Ip) → changes_by mode mode group sources sources ≡ []
-changes-itself Include sources group = ap (λ (none : List Ip). record_of_some Allow group none ++ record_of_some Block group none) (difference-itself sources)
-changes-itself Exclude sources group = ap (λ (none : List Ip). record_of_some Allow group none ++ record_of_some Block group none) (difference-itself sources)
-
 -- a group whose sockets are as before gives no record
 same-sockets : (before after : List Socket) (group : Ip) → on_group group after ≡ on_group group before → changed_on before after group ≡ []
 same-sockets before after group same =
     let old = merged (filters_on group before) in
-    ap (λ (sockets : List Socket). changes_on old (merged (map (λ (socket : Socket). socket.filter) sockets)) group) same ∙ changes-itself old.mode old.sources group
+    ap (λ (sockets : List Socket). changes_on old (merged (map (λ (socket : Socket). socket.filter) sockets)) group) same ∙ changes_on-itself old group
 
 -- the octets of what changed of a group of the family
 abbrev cost : Family → List Socket → List Socket → Ip → ℕ

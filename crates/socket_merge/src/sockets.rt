@@ -1,6 +1,6 @@
 //! The sockets of a host.
 
-ghost use Rattle.std.specs.Prelude.{◌≡◌, ℕ, ◌≤◌, ◌↔◌, [], ◌∷◌, ◌++◌, true, false, length, All, IfOk, OnOk, OnErr, IsErr, Some};
+ghost use Rattle.std.specs.Prelude.{◌≡◌, ◌≤◌, ◌↔◌, [], ◌∷◌, ◌++◌, true, false, length, All, IfOk, OnOk, OnErr, IsErr, Some};
 ghost use Rattle.std.specs.Map.{keys_of};
 ghost use Rattle.amt_values.specs.{Ascending.{IsAscending}, Group.{is_forwardable}, Order.{ip_order}, declared.address.Ip.{Ip}};
 ghost use Rattle.source_filter.specs.Filter.{admits};

@@ -3,3 +3,4 @@ pub mod FilterAfter
 pub mod Compared
 pub mod MergedFilters
 pub mod SourceSets
+pub mod Unchanged

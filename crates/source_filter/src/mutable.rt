@@ -33,7 +33,7 @@ impl Model for MutableFilter {
 }
 
 impl MutableFilter {
-    ghost use Rattle.source_filter.specs.{Filter.{ascending_sources, filter_after, mode_after, nothing, sources_after, wants_any}, declared.record.RecordKind.TheVariants.{Allow, Block}};
+    ghost use Rattle.source_filter.specs.{Filter.{ascending_sources, filter_after, nothing, sources_after, wants_any}, declared.record.RecordKind.TheVariants.{Allow, Block}};
 
     /// Nothing is wanted. It takes no memory.
     pub fn new(alloc: Global) -> Self

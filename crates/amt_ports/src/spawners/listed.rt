@@ -1,5 +1,5 @@
 //! A spawner of which some starts are refused, for tests and callers.
-ghost use Rattle.std.specs.Prelude.{◌≡◌, [], Some, Contains, IsErr, IfOk, OnOk, OnErr};
+ghost use Rattle.std.specs.Prelude.{◌≡◌, Some, Contains, IsErr, IfOk, OnOk, OnErr};
 ghost use Rattle.amt_ports.specs.{Causes.{HasCause, next_count}, Starts.{HasStarted}, Tally.{fresh_tally, with_call, with_fault}};
 
 use super::promised::{GivenBy, Starts};

@@ -1,5 +1,5 @@
 //! How a running gateway hears its link.
-ghost use Rattle.std.specs.Prelude.{◌≡◌, ◌≤◌, ◌<◌, ◌+◌, ◌^◌, [], ◌∷◌, Bool, length};
+ghost use Rattle.std.specs.Prelude.{◌≤◌, ◌<◌, ◌+◌, ◌^◌, Bool, length};
 ghost use Rattle.gateway_machine.specs.declared.event.GatewayEvent.TheVariants.{Datagram as DatagramEvent};
 ghost use Rattle.amt_ports.specs.{Bursts.{AreAsked, IsNext}, Devices.{link_at, out_at}};
 ghost use Rattle.gateway_serving.specs.{Servers.{tally_in}, Traces.{HearsSo, WorkDoes, at_work, offering}};

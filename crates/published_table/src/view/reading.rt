@@ -1,7 +1,7 @@
 //! How a view reads the table.
-ghost use Rattle.std.specs.Prelude.{◌≡◌, ◌≤◌, ℕ, Some, length, IfSome, OnSome, MatchOption};
-ghost use Rattle.endpoint_membership.specs.{Limits.{live_count}, Table.{Holds}, Targets.{targets_of}, declared.change.Change.{Change as LogEntry}};
-ghost use Rattle.published_table.specs.{History.{AreUnder, IsUnder}, Lists.{BeginsWithEach}, Logs.{entries}, Terms.{settings_by}, Told.{logs_told}, Views.{Fills, HasRead, IsHandedBack, IsSameView, handed, publisher_of, seen, terms_of, told}};
+ghost use Rattle.std.specs.Prelude.{◌≡◌, ◌≤◌, Some, length, OnSome, MatchOption};
+ghost use Rattle.endpoint_membership.specs.{Limits.{live_count}, Targets.{targets_of}};
+ghost use Rattle.published_table.specs.{History.{AreUnder, IsUnder}, Lists.{BeginsWithEach}, Logs.{entries}, Told.{logs_told}, Views.{Fills, HasRead, IsHandedBack, IsSameView, seen, terms_of, told}};
 
 use super::{Reader, View};
 use crate::history::{Bookmark, compare};

@@ -1,5 +1,5 @@
 //! Views that are handed out one by one.
-ghost use Rattle.std.specs.Prelude.{◌≡◌, ◌≤◌, ◌<◌, ℕ, [], ◌∷◌, ◌++◌, All, length, IfSome, IfNone, IfOk, IfErr, IsOk, OnOk, OnErr};
+ghost use Rattle.std.specs.Prelude.{◌≡◌, ◌≤◌, ◌<◌, [], ◌∷◌, ◌++◌, All, length, IfSome, IfNone, IfOk, IfErr, IsOk, OnOk, OnErr};
 ghost use Rattle.logbook.specs.Pages.{Book};
 ghost use Rattle.published_table.specs.{Views.{IsNew, room_of, views_of}, declared.terms.Terms.{Terms as ReadingTerms}};
 

@@ -1,7 +1,6 @@
 //! How a running relay is started.
-ghost use Rattle.std.specs.Prelude.{◌≡◌, ◌≤◌, ◌<◌, ◌+◌, ◌++◌, [], All, length, IfErr, IfOk, OnErr, OnOk, map, reverse, true, false, vec_capacity};
+ghost use Rattle.std.specs.Prelude.{◌≡◌, ◌≤◌, ◌<◌, ◌+◌, ◌++◌, [], All, length, IfErr, IfOk, OnOk, map, reverse, true, false, vec_capacity};
 ghost use Rattle.logbook.specs.Pages.{Book};
-ghost use Rattle.amt_ports.specs.Causes.{Rose};
 ghost use Rattle.published_table.specs.Views.{IsNew, views_of};
 ghost use Rattle.relay_machine.specs.Settings.{AreLawfulSettings};
 ghost use Rattle.replication_workers.specs.{Replicators.{out_of}, Dispatchers.{AllRun, is_threaded, slots_of}, SlotStates.{new_slot}, Starting.{HaveStarted}};

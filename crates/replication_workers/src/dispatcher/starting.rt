@@ -1,5 +1,5 @@
 //! How a dispatcher is started.
-ghost use Rattle.std.specs.{Prelude.{◌≡◌, ◌≤◌, ◌+◌, [], true, false, length, map, vec_capacity, IfErr, IfOk, OnErr, OnOk}, List.{All}};
+ghost use Rattle.std.specs.{Prelude.{◌≡◌, ◌≤◌, ◌+◌, [], true, false, length, map, vec_capacity, IfErr, IfOk, OnOk}, List.{All}};
 ghost use Rattle.amt_ports.specs.Causes.{Rose};
 ghost use Rattle.published_table.specs.Views.{views_of};
 ghost use Rattle.replication_workers.specs.{Dispatchers.{AllRun, held_by, is_threaded, slots_of}, Gathering.{HasRoom, IsFresh}, KeptSlots.{IsRunBy, state_of}, SlotStates.{jobs_in_all, new_slot}, Slots.{from_the_end}, Starting.{AllButOneBack, GivesBack, HaveStarted, OnFailed, OnMemory}};

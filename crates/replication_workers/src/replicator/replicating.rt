@@ -2,7 +2,6 @@
 ghost use Rattle.std.specs.Prelude.{◌≡◌, ◌≤◌, ◌+◌, [], ◌∷◌, Ok, length, MatchOption, IsErr, IfSome, map};
 ghost use Rattle.amt_messages.specs.{Layout.{spelling_of}, declared.message.Message.TheVariants.{Multicast}};
 ghost use Rattle.endpoint_membership.specs.Targets.{targets_of};
-ghost use Rattle.inner_datagrams.specs.declared.head.Head.{Head as HeadValue};
 ghost use Rattle.published_table.specs.{Lists.{BeginsWith, BeginsWithEach}, Views.{IsSameView, named, note_publisher, publisher_of, seen, terms_of, told}};
 ghost use Rattle.relay_machine.specs.Packets.{head_to_copy};
 ghost use Rattle.replication_workers.specs.{Replication.{with_message}, Replicators.{Tries, copies_due, limit_of, out_of, view_of}};

@@ -1,5 +1,5 @@
 //! One message to many endpoints.
-ghost use Rattle.std.specs.Prelude.{◌≡◌, ◌≤◌, ◌∷◌, ◌+◌, length, map, vec_capacity};
+ghost use Rattle.std.specs.Prelude.{◌≡◌, ◌≤◌, ◌+◌, length, map, vec_capacity};
 ghost use Rattle.amt_messages.specs.{Layout.{spelling_of}, declared.message.Message.TheVariants.{Multicast}};
 ghost use Rattle.replication_workers.specs.Replication.{with_message};
 ghost use Rattle.amt_ports.specs.Tried.{HasTried};

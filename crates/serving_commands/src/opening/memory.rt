@@ -1,7 +1,7 @@
 //! Sets of devices in memory, for tests and callers.
 ghost use Rattle.std.specs.Prelude.{◌≡◌, ◌≤◌, ◌<◌, ◌⊎◌, [], ◌∷◌, Contains, IfOk, IsErr, IsErrOf, IsSome, OnErr, OnOk, Some, false, length, true};
 ghost use Rattle.amt_ports.specs.{Causes.{HasCause, Rose, next_count}, Tally.{fresh_tally, with_call, with_fault}, Told.{Appends}};
-ghost use Rattle.serving_commands.specs.{MemLive.{with_room, with_set}, Sets.{HasRoom, TakesFirst, fits_gateway, fits_relay, less_room, more_room}, declared.opening.{asked.Opening.TheVariants.{Relay as AskedRelay, Gateway as AskedGateway}, devices.DeviceSet.TheVariants.{Relay as RelaySet, Gateway as GatewaySet}}};
+ghost use Rattle.serving_commands.specs.{MemLive.{with_room}, Sets.{HasRoom, TakesFirst, fits_gateway, fits_relay, less_room, more_room}, declared.opening.{asked.Opening.TheVariants.{Relay as AskedRelay, Gateway as AskedGateway}, devices.DeviceSet.TheVariants.{Relay as RelaySet, Gateway as GatewaySet}}};
 
 use crate::opening::asked::{AskedLog, Opening};
 use crate::opening::devices::{DeviceSet, GatewayDevices, RelayDevices};

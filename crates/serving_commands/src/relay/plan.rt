@@ -1,5 +1,5 @@
 //! How a relay is to be run. It knows no file.
-ghost use Rattle.std.specs.Prelude.{◌≡◌, ◌≤◌};
+ghost use Rattle.std.specs.Prelude.{◌≡◌};
 ghost use Rattle.serving_commands.specs.RelayPlans.{plan_by};
 
 use amt_config::RelayConfig;

@@ -11,5 +11,5 @@ returns-clause-rule c = printed_peer c.args.peer.now
 pub returns-clause-back : goal.returns-clause-back
 returns-clause-back c =
     let peer = c.args.peer.now in
-    let names : IsPeerText peer (peer_text peer) = record { address = ip_text peer.ip; names = c.text_names.ensures; port = search rules; spelled = refl } in
+    let names : IsPeerText peer (peer_text peer) = record { address = ip_text peer.ip; names = c.ip_text_names.ensures; port = search rules; spelled = refl } in
     let whole : c.write.new.self ≡ peer_text peer = search rules in subst (IsPeerText peer) (sym whole) names

@@ -1,6 +1,5 @@
 use Rattle.std.proofs.{Common.{[], ◌∷◌, ◌++◌, refl}, lemmas.Result.{on_ok_weaker}}
 use Rattle.endpoint_membership.{specs.{Table.{Holds}}, proofs.HoldsAfter.{IsWithin-log}}
-use Rattle.program_tests.specs.Following.{AreOfOneLog}
 use Rattle.program_tests.proofs.upstream.take.Goals as goal
 
 pub take-requires : goal.take-requires

@@ -2,7 +2,7 @@ use Rattle.std.proofs.{Common.{List, IsSorted, subst, sym, ap, ◌∙◌}, lemma
 use Rattle.amt_values.{specs.{declared.address.Ip.{Ip}, Order.{ip_order}, Ascending.{ascending}}, proofs.{Orders.{ip_order-exact, ip_order-total}, Sorting.{ascending-sorted}}}
 use Rattle.source_filter.proofs.Compared.{tied}
 use Rattle.amt_upstream.proofs.ChangesInOrder.{IsSorted-groups}
-use Rattle.amt_upstream.proofs.sides.changed_groups.Goals as goal
+use Rattle.amt_upstream.proofs.changed_group.changed_groups.Goals as goal
 
 pub returns : goal.returns
 returns c =

@@ -3,7 +3,7 @@
 ghost use Rattle.std.specs.Prelude.{◌≡◌, All, IfOk, map};
 ghost use Rattle.amt_values.specs.Ascending.{IsAscending};
 ghost use Rattle.endpoint_membership.specs.{Membership.{membership_order}, MembershipChanges.{change_order}};
-ghost use Rattle.amt_upstream.specs.{Counting.{AreInOrder, AreNumbers}, Looking.{IsSideOf, changed_groups, changes_on_group, named_by}};
+ghost use Rattle.amt_upstream.specs.{Counting.{AreInOrder, AreNumbers}, Looking.{IsChangedGroupOf, changed_groups, changes_on_group, named_by}};
 
 use crate::looking::{look_after, sources_of};
 use crate::tally::Tally;
@@ -14,7 +14,7 @@ use std::alloc::{AllocError, Global};
 
 /// A group that changes: the sources that its changes name, and what is seen of its filter before.
 #[derive(Debug, Drop)]
-pub struct Side {
+pub struct ChangedGroup {
     pub group: Ip,
     pub named: Vec<Ip>,
     pub before: Filter,
@@ -26,14 +26,14 @@ pub fn sides_of(
     table: &Table,
     tally: &Tally,
     changes: &[MembershipChange],
-) -> Result<Vec<Side>, AllocError>
+) -> Result<Vec<ChangedGroup>, AllocError>
     requires rows { IsAscending membership_order table.now.rows }
     requires numbers { AreNumbers table.now.rows tally.now.numbers }
     requires in_order { AreInOrder table.now.rows }
     requires ascend { IsAscending change_order changes.now }
     ensures groups { IfOk result
         (λ sides. map (λ side. side.group) sides.items ≡ changed_groups changes.now) }
-    ensures each { IfOk result (λ sides. All (IsSideOf table.now.rows changes.now) sides.items) }
+    ensures each { IfOk result (λ sides. All (IsChangedGroupOf table.now.rows changes.now) sides.items) }
 {
     let groups = changed_groups(alloc, changes)?;
     let mut sides = Vec::with_capacity(alloc, groups.len())?;
@@ -67,17 +67,17 @@ fn side_of(
     tally: &Tally,
     changes: &[MembershipChange],
     group: &Ip,
-) -> Result<Side, AllocError>
+) -> Result<ChangedGroup, AllocError>
     requires rows { IsAscending membership_order table.now.rows }
     requires numbers { AreNumbers table.now.rows tally.now.numbers }
     requires in_order { AreInOrder table.now.rows }
     requires ascend { IsAscending change_order changes.now }
     ensures group { IfOk result (λ side. side.group ≡ group.now) }
-    ensures is { IfOk result (IsSideOf table.now.rows changes.now) }
+    ensures is { IfOk result (IsChangedGroupOf table.now.rows changes.now) }
 {
     let named = named_by(alloc, changes_on(changes, group))?;
     let before = look_after(alloc, table, &[], tally, Mode::Include, group, &named)?;
-    Ok(Side {
+    Ok(ChangedGroup {
         group: *group,
         named,
         before,

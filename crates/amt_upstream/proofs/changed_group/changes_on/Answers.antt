@@ -1,6 +1,6 @@
 use Rattle.std.proofs.{Common.{rules, of_calls, ◌≡◌, ◌-◌, length, take, drop, ap, sym, ◌∙◌}, Math.Seq.{take-length}, lemmas.{List.{length-drop}, List.Sorted.{IsPartitionPoint-from_clause}}}
 use Rattle.amt_upstream.proofs.ChangesInOrder.{changes_between_points, is_before, is_not_after, parted_after, parted_before}
-use Rattle.amt_upstream.proofs.sides.changes_on.Goals as goal
+use Rattle.amt_upstream.proofs.changed_group.changes_on.Goals as goal
 
 pub returns : goal.returns
 returns c =

@@ -2,7 +2,7 @@ use Rattle.std.proofs.Common.{List, ap, ◌∙◌}
 use Rattle.amt_values.specs.declared.address.Ip.{Ip}
 use Rattle.amt_upstream.specs.{Looking.{named_by, seen}, Upstream.{joined}}
 use Rattle.amt_upstream.proofs.Looked.{IsAfter-none}
-use Rattle.amt_upstream.proofs.sides.side_of.Goals as goal
+use Rattle.amt_upstream.proofs.changed_group.side_of.Goals as goal
 
 pub returns-clause-is : goal.returns-clause-is
 returns-clause-is c = record {
