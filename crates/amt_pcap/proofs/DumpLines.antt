@@ -2,10 +2,10 @@
 use Rattle.std.{proofs.{Common.{◌≡◌, ℕ, ◌+◌, ◌/◌, ◌<◌, ◌≤◌, ◌==◌, false, List, [], ◌∷◌, ◌++◌, length, get_or, take, slice_index, All, flat_map, Option, None, Some, refl, sym, ap, subst, ◌∙◌, ne_eqb, length-drop, length-take, arith, rules}, lemmas.{Bool.{cond_both}, List.{Concat.{flat_map-cons}, Elements.{All-cons, All-from_recursion, All-get_or, All-nil, recursion_from_All}}}}, specs.{List.{AllByRecursion}, Option.{IfSome}}}
 use Rattle.hex.specs.Hex.{encode_with, lower_digits}
 use Rattle.amt_values.specs.Octets.{AreOctets}
-use Rattle.script_lines.{specs.{Lines.{says_nothing}, Script.{Spells}, Texts.{hex_text}}, proofs.Words.{fields-word-last, hex_length, hex_word, plain_glyphs}}
+use Rattle.script_lines.{specs.{Lines.{says_nothing}, Script.{Spells}, Texts.{hex_text}}, proofs.{Pieces.{GoesOn, end_goes_on, goes_on_whole, line_goes_on, piece_of_line}, Words.{fields-word-last, hex_length, hex_word, plain_glyphs}}}
 use Rattle.amt_dump.specs.Lines.{dump_kind}
 use Rattle.amt_pcap.specs.{declared.{capture.{Capture.{Capture}, Item.{Item}}, udp.Datagram.{Datagram}}, Texts.{HasDumpLine, capture_lines_text, is_of_tunnel, payload_line, tunnel_payloads, tunnel_payloads_if, tunnel_payloads_in}, Udp.{datagram_if, datagram_of, has_udp, udp_place}}
-use Rattle.amt_pcap.proofs.Pieces.{GoesOn, end_goes_on, flat_map-next, line_goes_on, piece_of_line}
+use Rattle.amt_pcap.proofs.Loops.{flat_map-next}
 
 short_payload : (packet : List ℕ) (place : Option ℕ) → length packet ≤ 65535 → IfSome (datagram_if packet place) (λ one. length one.payload ≤ 65535)
 short_payload packet None short = tt
@@ -51,7 +51,7 @@ pub lines_spelled : (capture : Capture) → All HasDumpLine (tunnel_payloads cap
 unfolding capture_lines_text
 lines_spelled capture each =
     let all = payloads_go_on (tunnel_payloads capture) [] (recursion_from_All HasDumpLine (tunnel_payloads capture) each) in
-    record { said = tunnel_payloads capture; all_lines = record { short = all.short; says = all.says }; made = refl }
+    record { said = tunnel_payloads capture; all_lines = goes_on_whole dump_kind (tunnel_payloads capture) _ all; made = refl }
 
 -- the datagrams so far, and that of the next item
 pub tunnelled-next : (all : List Item) (i : ℕ) (item : Item) → i < length all → item ≡ get_or all i item

@@ -1,5 +1,5 @@
 mod Addresses
 mod DumpLines
-mod Pieces
+mod Loops
 mod RelayLines
 pub mod Unique

@@ -3,13 +3,13 @@ use Rattle.std.{proofs.{Common.{◌≡◌, ℕ, ◌+◌, ◌^◌, ◌<◌, ◌�
 use Rattle.amt_values.specs.{declared.address.Ip.{Ip}, Text.{IsIpText, ip_text}}
 use Rattle.relay_machine.{specs.{declared.event.Event.{Event}, EventSize.{IsPayload}, Settings.{default_settings}}, proofs.Numbers.{AreLawful-default}}
 use Rattle.relay_machine.specs.declared.event.Event.TheVariants as events
-use Rattle.script_lines.{specs.Lines.{fields, says_nothing}, proofs.{Glyphs.{AreGlyphs, glyphs_of_digits}, Words.{fields-word, fields-two, glyphs_of_literal, plain_glyphs, plain_two}}}
+use Rattle.script_lines.{specs.Lines.{IsPlain, fields, says_nothing}, proofs.{Glyphs.{AreGlyphs, glyphs_of_digits}, Pieces.{GoesOn, IsPiece, end_goes_on, goes_on_whole, line_goes_on, piece_of_line, silent_goes_on}, Words.{fields-word, fields-two, glyphs_of_literal, plain_glyphs, plain_two}}}
 use Rattle.amt_script.specs.{declared.{line.RelayStatement.{RelayStatement}, script.RelayItem.{RelayItem}, setting.Setting.{Setting}}, Printed.{IsLineOf}, Says.{SaysEvent}, Script.{IsRelayScript, MayCome, items_in, relay_kind, settings_in}, Settling.{Settles, limits_given}, Texts.{event_line, event_text}}
 use Rattle.amt_script.specs.declared.line.RelayStatement.TheVariants as statements
 use Rattle.amt_script.specs.declared.script.RelayItem.TheVariants as items
 use Rattle.amt_script.specs.declared.setting.Setting.TheVariants as settings
 use Rattle.amt_pcap.specs.{declared.{capture.{Capture.{Capture}, Item.{Item}, Skip.{Skip, TheVariants.{Cut, Frame, Ip as NoIp}}}}, Texts.{AreReadBack, IsReadBack, capture_script_text, captured_script, comment, event_in, events_if, events_of_item, item_lines, lines_of_items, reason_of, relay_line, tail_line}}
-use Rattle.amt_pcap.proofs.{Addresses.{ip_length, ip_word}, Pieces.{GoesOn, IsPiece, comment_goes_on, end_goes_on, line_goes_on, piece_of_line}}
+use Rattle.amt_pcap.proofs.Addresses.{ip_length, ip_word}
 
 -- after any statements the text says these items
 abbrev SaysItems : List RelayItem → List ℕ → Type 0
@@ -38,6 +38,14 @@ event_says event more rest may back says = λ past.
     line_goes_on relay_kind past (statements.Item (items.Event event)) (map statements.Item more) (event_text event) line rest piece
     (says_something event (fields line) back.says.says.1) back.says.says.0 (may past, back.says.says.1) (says _)
 
+comment_goes_on : (past said : List RelayStatement) (text rest : List ℕ) → IsPlain text → length text ≤ 100 → GoesOn relay_kind past said rest
+    → GoesOn relay_kind past said (comment text ++ rest)
+comment_goes_on past said text rest plain few more =
+    let mark = glyphs_of_literal (codes "#") (search rules) in
+    let line = codes "# " ++ text in
+    silent_goes_on relay_kind past said (line ++ 10 ∷ []) line rest (piece_of_line line (plain_two (codes "#") text mark plain) (omega (arith, few)))
+    (ap says_nothing (fields-word (codes "#") text (omega arith) mark)) more
+
 reason_word : (packet : Result (List ℕ) Skip) → AreGlyphs (reason_of packet) × (length (reason_of packet) ≤ 5)
 reason_word (Err Cut) = (glyphs_of_literal (codes "cut") (search rules), omega arith)
 reason_word (Err Frame) = (glyphs_of_literal (codes "frame") (search rules), omega arith)
@@ -53,7 +61,7 @@ item_says number item None more rest small back says = λ past.
     let reason = reason_of item.packet in
     let word = reason_word item.packet in
     let few : length (decimal number ++ 32 ∷ reason) ≤ 100 = omega (arith, digits number small, word.1, length-append (decimal number) (32 ∷ reason)) in
-    comment_goes_on relay_kind past (map statements.Item more) (decimal number ++ 32 ∷ reason) rest
+    comment_goes_on past (map statements.Item more) (decimal number ++ 32 ∷ reason) rest
     (plain_two (decimal number) reason (glyphs_of_digits number small) (plain_glyphs reason word.0)) few (says past)
 item_says number item (Some event) more rest small back says =
     let moment = events.Moment item.at in
@@ -80,7 +88,7 @@ tail_says tail small =
     let plain = plain_two (codes "tail") (decimal tail) (glyphs_of_literal (codes "tail") (search rules)) (plain_glyphs (decimal tail) (glyphs_of_digits tail small)) in
     cond_both (tail == 0) [] (comment text) (SaysItems []) (λ none. end_goes_on relay_kind) λ some past.
     subst (GoesOn relay_kind past []) (append-nil (comment text))
-    (comment_goes_on relay_kind past [] text [] plain (omega (arith, digits tail small)) (end_goes_on relay_kind past))
+    (comment_goes_on past [] text [] plain (omega (arith, digits tail small)) (end_goes_on relay_kind past))
 
 relay_says : (relay : Ip) (more : List RelayItem) (rest : List ℕ) → IsIpText relay (ip_text relay) → SaysItems more rest
     → GoesOn relay_kind [] (statements.Setting (settings.Relay relay) ∷ map statements.Item more) (relay_line relay ++ rest)
@@ -115,7 +123,7 @@ script_spelled relay capture names back few small =
     let says = items_say relay 1 capture.items (tail_line capture.tail) (omega (arith, few)) (recursion_from_All (IsReadBack relay) capture.items back) tail in
     let whole = relay_says relay all (lines_of_items relay 1 capture.items ++ tail_line capture.tail) names says in record {
       said = statements.Setting (settings.Relay relay) ∷ map statements.Item all;
-      all_lines = record { short = whole.short; says = whole.says };
+      all_lines = goes_on_whole relay_kind _ _ whole;
       made = record {
         settled = subst (λ (given : List Setting). Settles given (default_settings relay) (record { 0 = replicate 32 0 }))
             (sym (ap (λ (given : List Setting). settings.Relay relay ∷ given) (no_settings all)))

@@ -1,36 +1,41 @@
 -- The relay script of a capture, and the lines of the tunnel's datagrams in it.
-use Rattle.std.specs.Prelude.{ℕ, ◌+◌, ◌==◌, ◌&&◌, ◌||◌, ◌≤◌, Bool, List, [], ◌∷◌, ◌++◌, All, length, replicate, codes, decimal, flat_map, Option, Some, None, Result, Ok, Err, if◌then◌else◌, IfSome}
+use Rattle.std.specs.Prelude.{ℕ, ◌+◌, ◌==◌, ◌&&◌, ◌||◌, ◌≤◌, Bool, false, List, [], ◌∷◌, ◌++◌, All, length, replicate, codes, decimal, flat_map, Option, Some, None, Result, Ok, Err, if◌then◌else◌, IfSome}
 use Rattle.std.specs.Ordering.{eq_by_cmp}
-use Rattle.amt_values.specs.{declared.{address.Ip.{Ip}, peer.{TheConstants.{AMT_PORT}}}, Group.{is_forwardable}, Octets.{AreOctets}, Order.{ip_order}, Text.{ip_text}}
+use Rattle.amt_values.specs.{declared.{address.Ip.{Ip}, peer.{Peer.{Peer}, TheConstants.{AMT_PORT}}}, Group.{is_forwardable}, Octets.{AreOctets}, Order.{ip_order}, Text.{ip_text}}
 use Rattle.inner_datagrams.specs.{Head.{head_of}, declared.head.{Head.{Head}, HeadFault.{HeadFault}}}
 use Rattle.relay_machine.specs.{declared.event.Event.{Event}, EventSize.{IsPayload}, Settings.{default_settings}}
 use Rattle.relay_machine.specs.declared.event.Event.TheVariants as events
 use Rattle.script_lines.specs.Texts.{hex_text}
-use Rattle.amt_script.specs.{declared.script.{RelayItem.{RelayItem}, RelayScript.{RelayScript}}, Printed.{HasLine, IsLineOf}, Texts.{event_text}}
+use Rattle.amt_script.specs.{declared.script.{RelayItem.{RelayItem}, RelayScript.{RelayScript}}, Printed.{IsLineOf}, Texts.{event_text}}
 use Rattle.amt_script.specs.declared.script.RelayItem.TheVariants as items
-use Rattle.amt_pcap.specs.{declared.{capture.{Capture.{Capture}, Item.{Item}, Skip.{Skip, TheVariants.{Cut, Frame, Ip as NoIp}}}, udp.Datagram.{Datagram}}, Udp.{datagram_of}}
+use Rattle.amt_pcap.specs.{declared.{capture.{Capture.{Capture}, Item.{Item}, Skip.{Skip, TheVariants.{Cut, Frame, Ip as NoIp}}}, udp.Ends.{Ends}}, Udp.{Datagram, datagram_of}}
 
 -- the datagram was sent to the relay, at AMT's port
-abbrev pub is_to : Ip → Datagram → Bool
-is_to relay datagram = eq_by_cmp ip_order datagram.destination.ip relay && (datagram.destination.port == AMT_PORT)
+abbrev pub is_to : Ip → Ends → Bool
+is_to relay ends = eq_by_cmp ip_order ends.destination.ip relay && (ends.destination.port == AMT_PORT)
 
 -- one of its ends has AMT's port
-abbrev pub is_of_tunnel : Datagram → Bool
-is_of_tunnel datagram = (datagram.source.port == AMT_PORT) || (datagram.destination.port == AMT_PORT)
+abbrev pub is_of_tunnel : Ends → Bool
+is_of_tunnel ends = (ends.source.port == AMT_PORT) || (ends.destination.port == AMT_PORT)
+
+-- octets are a datagram from a peer, or a packet that is from none
+abbrev pub event_from : Option Peer → List ℕ → Event
+event_from None bytes = events.Packet bytes
+event_from (Some from) bytes = events.Datagram bytes from
 
 -- a packet to a group that is forwarded is one that a relay would copy
-abbrev pub event_to : List ℕ → Result Head HeadFault → Option Event
-event_to packet (Err fault) = None
-event_to packet (Ok head) = if is_forwardable head.group then Some (events.Packet packet) else None
+abbrev pub is_to_group : Result Head HeadFault → Bool
+is_to_group (Err fault) = false
+is_to_group (Ok head) = is_forwardable head.group
 
 abbrev pub event_of_packet : List ℕ → Option Event
-event_of_packet packet = event_to packet (head_of packet)
+event_of_packet packet = if is_to_group (head_of packet) then Some (event_from None packet) else None
 
 -- a datagram to the relay is one that it gets; else it may be a packet to copy
 abbrev pub event_of : Ip → List ℕ → Option Datagram → Option Event
 event_of relay packet None = event_of_packet packet
 event_of relay packet (Some datagram) =
-    if is_to relay datagram then Some (events.Datagram datagram.payload datagram.source) else event_of_packet packet
+    if is_to relay datagram.ends then Some (event_from (Some datagram.ends.source) datagram.payload) else event_of_packet packet
 
 -- what a captured item is to the relay, if anything
 abbrev pub event_in : Ip → Result (List ℕ) Skip → Option Event
@@ -76,10 +81,6 @@ unfoldable pub capture_script_text : Ip → Capture → List ℕ
 capture_script_text relay capture =
     relay_line relay ++ (lines_of_items relay 1 capture.items ++ tail_line capture.tail)
 
--- what a captured packet is: a datagram or a packet that a line can say
-abbrev pub IsCaptured : Event → Type 0
-IsCaptured event = IsPayload event × HasLine event
-
 -- the line of an event, and that of its moment, are read back as them
 pub record AreReadBack (at : ℕ) (event : Event) : Type 0 where
   pub moment : IsLineOf (events.Moment at) (event_text (events.Moment at))
@@ -108,7 +109,7 @@ captured_script relay capture = record {
 -- the tunnel's datagram in an item, if there is one
 abbrev pub tunnel_payloads_if : Option Datagram → List (List ℕ)
 tunnel_payloads_if None = []
-tunnel_payloads_if (Some datagram) = if is_of_tunnel datagram then datagram.payload ∷ [] else []
+tunnel_payloads_if (Some datagram) = if is_of_tunnel datagram.ends then datagram.payload ∷ [] else []
 
 abbrev pub tunnel_payloads_in : Result (List ℕ) Skip → List (List ℕ)
 tunnel_payloads_in (Err skip) = []

@@ -3,7 +3,12 @@ use Rattle.std.specs.Prelude.{ℕ, ◌+◌, ◌-◌, ◌==◌, ◌&&◌, not, na
 use Rattle.byteorder.specs.Endian.{big_number}
 use Rattle.amt_values.specs.{IpHeader.{ip_version}}
 use Rattle.inner_datagrams.specs.{Head.{head_at}, Header.{fragment_bits, header_octets, protocol_number}, Header6.{next_header}}
-use Rattle.amt_pcap.specs.declared.udp.Datagram.{Datagram}
+use Rattle.amt_pcap.specs.declared.udp.Ends.{Ends}
+
+-- a datagram: its two ends and its data
+pub record Datagram : Type 0 where
+  pub ends : Ends
+  pub payload : List ℕ
 
 -- of IPv4 the place after its header, where it carries UDP and is no fragment
 abbrev pub udp_place4 : List ℕ → Option ℕ
@@ -32,8 +37,10 @@ has_udp packet place = not (nat_lt (length packet) (place + 8)) && not (nat_lt (
 -- both ends and the data
 abbrev pub datagram_at : List ℕ → ℕ → Datagram
 datagram_at packet place = record {
-  source = record { ip = (head_at packet).source; port = big_number 2 (drop place packet) };
-  destination = record { ip = (head_at packet).group; port = big_number 2 (drop (place + 2) packet) };
+  ends = record {
+    source = record { ip = (head_at packet).source; port = big_number 2 (drop place packet) };
+    destination = record { ip = (head_at packet).group; port = big_number 2 (drop (place + 2) packet) };
+  };
   payload = take (udp_length packet place - 8) (drop (place + 8) packet);
 }
 

@@ -28,7 +28,7 @@ fn is_ip_type(frame: &[u8], at: usize) -> bool
 }
 
 // The place after a tag, or this one where no tag stands.
-fn behind_tag(frame: &[u8], at: usize) -> usize
+fn after_tag(frame: &[u8], at: usize) -> usize
     requires { at ≤ 16 }
     ensures place { result ≡ if is_tag frame.now at then at + 4 else at }
     ensures near { result ≤ at + 4 }
@@ -44,7 +44,7 @@ pub fn payload_of(frame: &[u8]) -> Option<&[u8]>
     ensures { option_map (λ payload. payload.now) result ≡ payload_of frame.now }
 {
     // No type of IP is that of a tag, so tags can be passed over first.
-    let at = behind_tag(frame, behind_tag(frame, 12));
+    let at = after_tag(frame, after_tag(frame, 12));
     if !is_ip_type(frame, at) {
         return None;
     }

@@ -1,90 +1,75 @@
 //! The relay script of a capture.
 
-ghost use Rattle.std.specs.Prelude.{◌≡◌, ◌≤◌, ◌++◌, length, IfOk, IfSome, OnOk, Ok};
+ghost use Rattle.std.specs.Prelude.{◌≡◌, ◌≤◌, ◌++◌, length, option_map, IfOk, IfSome, OnOk, Ok};
 ghost use Rattle.amt_values.specs.Text.{IsIpText, ip_text};
-ghost use Rattle.amt_script.specs.{Printed.{HasLine, IsLineOf}, Script.{IsRelayScript}, Texts.{event_text}};
-ghost use Rattle.amt_pcap.specs.Texts.{HasShortPackets, IsCaptured, IsReadBack, IsShortPacket, capture_script_text, captured_script, event_in, event_of_packet, is_to, item_lines, reason_line, reason_of, relay_line, tail_line};
+ghost use Rattle.inner_datagrams.specs.Head.{head_of};
+ghost use Rattle.amt_script.specs.{Printed.{IsLineOf}, Script.{IsRelayScript}, Texts.{event_text}};
+ghost use Rattle.amt_pcap.specs.Texts.{HasShortPackets, IsReadBack, IsShortPacket, capture_script_text, captured_script, event_from, event_in, is_to, is_to_group, item_lines, reason_line, reason_of, relay_line, tail_line};
 
 use crate::capture::{Capture, Item, Skip};
-use crate::udp::{Datagram, datagram_of};
-use amt_script::print_relay_event;
-use amt_values::{AMT_PORT, Bytes, Ip, append_numeral, forwardable, print_ip};
+use crate::udp::{Ends, datagram_of};
+use amt_script::{append_datagram_event, append_moment_event, append_packet_event};
+use amt_values::{AMT_PORT, Bytes, Ip, Peer, append_numeral, forwardable, ip_text_names};
 use inner_datagrams::packet_head;
-use relay_machine::Event;
+use script_lines::append_ip;
 use std::alloc::{AllocError, Global};
 
-// Whether a relay at this address gets the datagram.
-fn is_to(relay: &Ip, datagram: &Datagram) -> bool
-    ensures { result ≡ is_to relay.now datagram.now }
+// Whether a relay at this address gets what has these ends.
+fn is_to(relay: &Ip, ends: &Ends) -> bool
+    ensures { result ≡ is_to relay.now ends.now }
 {
-    datagram.destination.ip == *relay && datagram.destination.port == AMT_PORT
+    ends.destination.ip == *relay && ends.destination.port == AMT_PORT
 }
 
-// The packet as one that a relay would copy, if it is one.
-fn event_of_packet(alloc: Global, packet: &[u8]) -> Result<Option<Event>, AllocError>
-    requires { length packet.now ≤ 65535 }
-    ensures found { IfOk result (λ event. event ≡ event_of_packet packet.now) }
-    ensures fits { IfOk result (λ event. IfSome event IsCaptured) }
+// Whether the packet is one that a relay would copy.
+fn is_to_group(packet: &[u8]) -> bool
+    ensures { result ≡ is_to_group (head_of packet.now) }
 {
-    let Ok(head) = packet_head(packet) else {
-        return Ok(None);
-    };
-    if !forwardable(&head.group) {
-        return Ok(None);
+    match packet_head(packet) {
+        Ok(head) => forwardable(&head.group),
+        Err(_) => false,
     }
-    let bytes = Bytes::copied(alloc, packet)?;
-    Ok(Some(Event::Packet { bytes }))
 }
 
-// What a packet is to a relay at this address, if anything.
-fn event_of(alloc: Global, relay: &Ip, packet: &[u8]) -> Result<Option<Event>, AllocError>
+// What a packet is to a relay at this address, if anything: a datagram's source and data, or a packet without a source.
+fn event_of<'a>(relay: &Ip, packet: &'a [u8]) -> Option<(Option<Peer>, &'a [u8])>
     requires { length packet.now ≤ 65535 }
-    ensures found { IfOk result (λ event. event ≡ event_in relay.now (Ok packet.now)) }
-    ensures fits { IfOk result (λ event. IfSome event IsCaptured) }
+    ensures found { option_map (λ event. event_from event.0 event.1.now) result ≡ event_in relay.now (Ok packet.now) }
+    ensures short { IfSome result (λ event. length event.1.now ≤ 65535) }
 {
-    match datagram_of(alloc, packet)? {
-        Some(datagram) => {
-            if is_to(relay, &datagram) {
-                let Datagram {
-                    source,
-                    payload,
-                    ..
-                } = datagram;
-                return Ok(Some(Event::Datagram {
-                    bytes: payload,
-                    from: source,
-                }));
-            }
-            event_of_packet(alloc, packet)
+    if let Some((ends, payload)) = datagram_of(packet) {
+        if is_to(relay, &ends) {
+            return Some((Some(ends.source), payload));
         }
-        None => event_of_packet(alloc, packet),
     }
+    if !is_to_group(packet) {
+        return None;
+    }
+    Some((None, packet))
 }
 
 // What a captured item is to it, if anything.
-fn event_in(
-    alloc: Global,
-    relay: &Ip,
-    packet: &Result<Bytes, Skip>,
-) -> Result<Option<Event>, AllocError>
+fn event_in<'a>(relay: &Ip, packet: &'a Result<Bytes, Skip>) -> Option<(Option<Peer>, &'a [u8])>
     requires { IsShortPacket packet.now }
-    ensures found { IfOk result (λ event. event ≡ event_in relay.now packet.now) }
-    ensures fits { IfOk result (λ event. IfSome event IsCaptured) }
+    ensures found { option_map (λ event. event_from event.0 event.1.now) result ≡ event_in relay.now packet.now }
+    ensures short { IfSome result (λ event. length event.1.now ≤ 65535) }
 {
     match packet {
-        Ok(packet) => event_of(alloc, relay, packet.as_slice()),
-        Err(_) => Ok(None),
+        Ok(packet) => event_of(relay, packet.as_slice()),
+        Err(_) => None,
     }
 }
 
 // Puts the line of an event at the end, which is read back as the event.
-fn append_event(alloc: Global, text: &mut Bytes, event: &Event) -> Result<(), AllocError>
-    requires { HasLine event.now }
-    ensures text { OnOk result (text.new ≡ text.old ++ event_text event.now) }
-    ensures back { OnOk result (IsLineOf event.now (event_text event.now)) }
+fn append_event(text: &mut Bytes, from: Option<Peer>, bytes: &[u8]) -> Result<(), AllocError>
+    requires { length bytes.now ≤ 65535 }
+    ensures text { OnOk result (text.new ≡ text.old ++ event_text (event_from from bytes.now)) }
+    ensures back { OnOk result (IsLineOf (event_from from bytes.now) (event_text (event_from from bytes.now))) }
 {
-    let line = print_relay_event(alloc, event)?;
-    text.append(line.as_slice())
+    match from {
+        Some(from) => append_datagram_event(text, &from, bytes),
+        None => append_packet_event(text, bytes),
+    }
 }
 
 // Why an item is no event.
@@ -129,18 +114,17 @@ fn append_tail(text: &mut Bytes, tail: u32) -> Result<(), AllocError>
 // `set relay ADDRESS`.
 fn print_relay_line(alloc: Global, relay: &Ip) -> Result<Bytes, AllocError>
     ensures text { IfOk result (λ text. text ≡ relay_line relay.now) }
-    ensures names { IfOk result (λ text. IsIpText relay.now (ip_text relay.now)) }
+    ensures names { IsIpText relay.now (ip_text relay.now) }
 {
-    let address = print_ip(alloc, relay)?;
+    ip_text_names(relay);
     let mut text = Bytes::copied(alloc, b"set relay ")?;
-    text.append(address.as_slice())?;
+    append_ip(&mut text, relay)?;
     text.append(b"\n")?;
     Ok(text)
 }
 
 // Puts the lines of an item at the end: its moment and its event, which are read back, or why it is none.
 fn append_item(
-    alloc: Global,
     text: &mut Bytes,
     relay: &Ip,
     number: u64,
@@ -151,10 +135,10 @@ fn append_item(
         ≡ text.old ++ item_lines number item.now (event_in relay.now item.now.packet)) }
     ensures back { OnOk result (IsReadBack relay.now item.now) }
 {
-    match event_in(alloc, relay, &item.packet)? {
-        Some(event) => {
-            append_event(alloc, text, &Event::Moment(item.at))?;
-            append_event(alloc, text, &event)
+    match event_in(relay, &item.packet) {
+        Some((from, bytes)) => {
+            append_moment_event(text, item.at)?;
+            append_event(text, from, bytes)
         }
         None => append_reason(text, number, &item.packet),
     }
@@ -171,7 +155,7 @@ pub fn capture_script(alloc: Global, capture: &Capture, relay: &Ip) -> Result<By
 {
     let mut text = print_relay_line(alloc, relay)?;
     for (index, item) in capture.items.as_slice().iter().enumerate() {
-        append_item(alloc, &mut text, relay, index as u64 + 1, item)?;
+        append_item(&mut text, relay, index as u64 + 1, item)?;
     }
     append_tail(&mut text, capture.tail)?;
     Ok(text)

@@ -1,20 +1,18 @@
 //! UDP in IP packets.
 
-ghost use Rattle.std.specs.Prelude.{◌≡◌, ◌≤◌, ◌+◌, length, Some, IfOk, IfSome, IsTrue};
+ghost use Rattle.std.specs.Prelude.{◌≡◌, ◌≤◌, ◌+◌, length, option_map, Some, IfSome, IsTrue};
 ghost use Rattle.amt_values.specs.IpHeader.{ip_version};
 ghost use Rattle.inner_datagrams.specs.Head.{head_at};
 ghost use Rattle.amt_pcap.specs.Udp.{datagram_at, datagram_of, has_udp, udp_place};
 
-use amt_values::{Bytes, Ip, Peer, u16_at, u32_at, u128_at};
+use amt_values::{Ip, Peer, u16_at, u32_at, u128_at};
 use inner_datagrams::Head;
-use std::alloc::{AllocError, Global};
 
-/// A UDP datagram.
-#[derive(Debug, Drop)]
-pub struct Datagram {
+/// The two ends of a UDP datagram.
+#[derive(Clone, Copy, Debug, PartialEq, Eq)]
+pub struct Ends {
     pub source: Peer,
     pub destination: Peer,
-    pub payload: Bytes,
 }
 
 // The least octets of an IPv4 packet that carries UDP.
@@ -74,19 +72,18 @@ fn head_at(packet: &[u8]) -> Head
     }
 }
 
-// The datagram whose header stands at the place.
-fn datagram_at(alloc: Global, packet: &[u8], place: usize) -> Result<Datagram, AllocError>
+// The ends and the data of the datagram whose header stands at the place.
+fn datagram_at(packet: &[u8], place: usize) -> (Ends, &[u8])
     requires least { 20 ≤ place }
     requires six { ip_version packet.now ≡ 6 → place ≡ 40 }
     requires there { IsTrue (has_udp packet.now place) }
-    ensures { IfOk result (λ datagram. datagram ≡ datagram_at packet.now place) }
+    ensures { record { ends = result.0; payload = result.1.now } ≡ datagram_at packet.now place }
 {
     let stated = u16_at(packet, place + 4) as usize;
     let (_, rest) = packet.split_at(place + 8);
     let (payload, _) = rest.split_at(stated - 8);
-    let payload = Bytes::copied(alloc, payload)?;
     let head = head_at(packet);
-    Ok(Datagram {
+    let ends = Ends {
         source: Peer {
             ip: head.source,
             port: u16_at(packet, place),
@@ -95,23 +92,21 @@ fn datagram_at(alloc: Global, packet: &[u8], place: usize) -> Result<Datagram, A
             ip: head.group,
             port: u16_at(packet, place + 2),
         },
-        payload,
-    })
+    };
+    (ends, payload)
 }
 
-/// The datagram that a packet carries, if it carries one (RFC 768). No checksum is looked at.
-pub fn datagram_of(alloc: Global, packet: &[u8]) -> Result<Option<Datagram>, AllocError>
+/// The ends and the data of the datagram that a packet carries, if it carries one (RFC 768). No checksum is looked at.
+pub fn datagram_of(packet: &[u8]) -> Option<(Ends, &[u8])>
     requires short { length packet.now ≤ 65535 }
-    ensures { IfOk result (λ found. found ≡ datagram_of packet.now) }
+    ensures { option_map (λ found. record { ends = found.0; payload = found.1.now }) result ≡ datagram_of packet.now }
 {
     if packet.len() < LEAST {
-        return Ok(None);
+        return None;
     }
-    let Some(place) = udp_place(packet) else {
-        return Ok(None);
-    };
+    let place = udp_place(packet)?;
     if !has_udp(packet, place) {
-        return Ok(None);
+        return None;
     }
-    Ok(Some(datagram_at(alloc, packet, place)?))
+    Some(datagram_at(packet, place))
 }

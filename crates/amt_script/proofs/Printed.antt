@@ -4,8 +4,8 @@ use Rattle.amt_values.specs.{Octets.{AreOctets}, Text.{peer_text, IsPeerText}, d
 use Rattle.endpoint_membership.specs.declared.limits.Limits.{Limits as LimitsValue}
 use Rattle.response_mac.specs.declared.secret.Secret.{Secret}
 use Rattle.relay_machine.specs.{EventSize.{IsEvent}, declared.{event.Event.{Event, TheVariants.{Moment, Datagram, Packet, Rotate, Limits}}, settings.Settings.{Settings}}}
-use Rattle.script_lines.{specs.Texts.{hex_text}, proofs.{Glyphs.{glyphs_of_digits}, Peers.{peer_length}, Words.{IsWordOf, fields-word, fields-two, plain_two, plain_glyphs, glyphs_of_literal, secret_text, hex_word, peer_word, hex_length}}}
-use Rattle.amt_script.specs.{Printed.{HasLine, IsLineThatSays}, Says.{IsItemLine, IsLimitText}}
+use Rattle.script_lines.{specs.Texts.{hex_text}, proofs.{Glyphs.{glyphs_of_digits}, Peers.{peer_length}, Words.{IsWordOf, lines-plain, fields-word, fields-two, plain_two, plain_glyphs, glyphs_of_literal, secret_text, hex_word, peer_word, hex_length}}}
+use Rattle.amt_script.specs.{Printed.{HasLine, IsLineOf, IsLineThatSays}, Says.{IsItemLine, IsLimitText}, Texts.{event_line, event_text}}
 use Rattle.amt_script.specs.declared.script.RelayItem.TheVariants as items
 
 moment_line : (ms : ℕ) → ms < 2 ^ 62 → IsItemLine (items.Event (Moment ms)) (codes "at " ++ decimal ms)
@@ -117,6 +117,11 @@ pub packet_said : (bytes : List ℕ) → AreOctets bytes → length bytes ≤ 65
 packet_said bytes octets short =
     let digits = hex_length bytes short in
     record { short = omega (arith, digits); says = packet_line bytes octets short }
+
+-- a line that says an event, with its line feed, is the event's text
+pub line_of : (event : Event) → IsLineThatSays event (event_line event) → IsLineOf event (event_text event)
+unfolding event_text
+line_of event said = record { line = event_line event; only = lines-plain (event_line event) said.says.0; says = said }
 
 digits : (number : ℕ) → number < 2 ^ 32 → length (decimal number) ≤ 20
 digits number small = length-decimal-le 20 number (omega arith) (omega (arith, small)) (omega (arith, small))

@@ -67,11 +67,11 @@ pub fn append_relay_outcome(text: &mut Bytes, outcome: &Outcome) -> Result<(), A
 
 /// Puts the line of a moment at the end, which is read back as that moment.
 #[tactic(auto, unfolding(crate::specs::Texts::event_text))]
-pub fn append_moment_event(text: &mut Bytes, at: Moment) -> Result<(), AllocError>
-    ensures text { OnOk result (text.new ≡ text.old ++ event_text (events.Moment at)) }
-    ensures back { OnOk result (IsLineOf (events.Moment at) (event_text (events.Moment at))) }
+pub fn append_moment_event(text: &mut Bytes, moment: Moment) -> Result<(), AllocError>
+    ensures text { OnOk result (text.new ≡ text.old ++ event_text (events.Moment moment)) }
+    ensures back { OnOk result (IsLineOf (events.Moment moment) (event_text (events.Moment moment))) }
 {
-    append_numbered(text, b"at ", at.ms())?;
+    append_numbered(text, b"at ", moment.ms())?;
     text.append(b"\n")
 }
 

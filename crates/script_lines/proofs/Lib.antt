@@ -8,6 +8,7 @@ pub mod Glyphs
 pub mod Numbers
 mod OctetDigits
 pub mod Peers
+pub mod Pieces
 mod Plain
 pub mod Runs
 pub mod Splitting

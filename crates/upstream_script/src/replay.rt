@@ -12,7 +12,7 @@ ghost use Rattle.upstream_script.specs.{Running.{IsUpstreamAfter, MayCome}, Text
 
 use crate::text::append_changes;
 use amt_ports::Sink;
-use amt_script::{RelayItem, RelayScript, print_relay_step, write_shown};
+use amt_script::{RelayItem, RelayScript, append_relay_step, write_shown};
 use amt_upstream::Upstream;
 use amt_values::Bytes;
 use endpoint_membership::Change;
@@ -64,7 +64,8 @@ fn take_event(
         OnOk result (IsUpstreamAfter run.new start (before ++ EventItem event.now ∷ []))) }
 {
     let step = run.relay.step(alloc, event)?;
-    let mut text = print_relay_step(alloc, number, &step)?;
+    let mut text = Bytes::new(alloc);
+    append_relay_step(&mut text, number, &step)?;
     append_taken(alloc, &mut run.upstream, &step.change, &mut text)?;
     held.append(text.as_slice())
 }

@@ -17,8 +17,8 @@ two frame first place one other = behind 1 frame 12 first one ∙ behind 0 frame
 
 pub returns-then-not-is_ip_type : goal.returns-then-not-is_ip_type
 returns-then-not-is_ip_type c =
-    rw (two c.args.frame.now c.behind_tag.result c.behind_tag-at.result c.behind_tag.ensures.place c.behind_tag-at.ensures.place) (grind (arith, common_steps))
+    rw (two c.args.frame.now c.after_tag.result c.after_tag-at.result c.after_tag.ensures.place c.after_tag-at.ensures.place) (grind (arith, common_steps))
 
 pub returns : goal.returns
 returns c =
-    rw (two c.args.frame.now c.behind_tag.result c.behind_tag-at.result c.behind_tag.ensures.place c.behind_tag-at.ensures.place) (grind (arith, common_steps))
+    rw (two c.args.frame.now c.after_tag.result c.after_tag-at.result c.after_tag.ensures.place c.after_tag-at.ensures.place) (grind (arith, common_steps))

@@ -1,7 +1,7 @@
 use Rattle.std.proofs.Common.{◌≡◌, ◌++◌, ◌^◌, ◌<◌, ◌≤◌, List, All, length, get_or, ap, sym, subst, arith, rules}
 use Rattle.std.proofs.lemmas.List.{take_all}
 use Rattle.amt_script.specs.Script.{IsRelayScript}
-use Rattle.amt_pcap.{specs.{declared.capture.Item.{Item}, Texts.{IsReadBack, captured_script, lines_of_items, relay_line}}, proofs.{Pieces.{All-next}, RelayLines.{left-next, left-none, script_spelled}}}
+use Rattle.amt_pcap.{specs.{declared.capture.Item.{Item}, Texts.{IsReadBack, captured_script, lines_of_items, relay_line}}, proofs.{Loops.{All-next}, RelayLines.{left-next, left-none, script_spelled}}}
 use Rattle.amt_pcap.proofs.script.capture_script.Goals as goal
 
 pub loop-index-preserved : goal.loop-index-preserved

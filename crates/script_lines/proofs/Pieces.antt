@@ -1,7 +1,6 @@
--- A text of pieces, each of which is a line with its line feed, has the lines of the pieces and says what they say.
-use Rattle.std.{proofs.{Common.{◌≡◌, ℕ, ◌+◌, ◌<◌, ◌≤◌, ◌==◌, Bool, true, false, cond, List, [], ◌∷◌, ◌++◌, length, take, get_or, All, flat_map, codes, refl, sym, ap, subst, ◌∙◌, append_assoc, arith, rules}, lemmas.List.{flat_map_more, take_more, Elements.{All-push}, Splits.{length-slice_split, slice_split-cons_yes}}}, specs.{List.{slice_split, onto_first, AllByRecursion}, Str.Lines.{lines, lines_of_parts, strip_carriage_return}}}
-use Rattle.script_lines.{specs.{Kind.{Kind}, Lines.{fields, says_nothing, lines_that_say, IsShort, IsPlain}, Script.{Say}}, proofs.{Begun.{stated}, Words.{fields-word, glyphs_of_literal, lines-plain, plain_two}}}
-use Rattle.amt_pcap.specs.Texts.{comment}
+-- The lines of a text whose pieces each end with a line feed are the lines of the pieces, and it says what they say.
+use Rattle.std.{proofs.{Common.{◌≡◌, ℕ, ◌+◌, ◌<◌, ◌==◌, Bool, true, false, cond, List, [], ◌∷◌, ◌++◌, length, refl, sym, ap, subst, ◌∙◌, append_assoc, arith}, lemmas.List.Splits.{length-slice_split, slice_split-cons_yes}}, specs.{List.{slice_split, onto_first, AllByRecursion}, Str.Lines.{lines, lines_of_parts, strip_carriage_return}}}
+use Rattle.script_lines.{specs.{Kind.{Kind}, Lines.{fields, says_nothing, lines_that_say, IsShort, IsPlain}, Script.{Begins, Say}}, proofs.{Begun.{stated}, Words.{lines-plain}}}
 
 one_more : {X : Type 0} (ends : Bool) (x : X) (parts others : List (List X)) → 0 < length parts
     → cond ends ([] ∷ (parts ++ others)) (onto_first x (parts ++ others)) ≡ cond ends ([] ∷ parts) (onto_first x parts) ++ others
@@ -70,22 +69,14 @@ module _ {S W : Type 0} (kind : Kind S W) where
       }
 
   -- a line that says nothing
-  pub comment_goes_on : (past said : List S) (text rest : List ℕ) → IsPlain text → length text ≤ 100 → GoesOn kind past said rest
-      → GoesOn kind past said (comment text ++ rest)
-  comment_goes_on past said text rest plain few more =
-      let mark = glyphs_of_literal (codes "#") (search rules) in
-      let line = codes "# " ++ text in
-      let piece = piece_of_line line (plain_two (codes "#") text mark plain) (omega (arith, few)) in
-      let whole = lines-first (line ++ 10 ∷ []) line rest piece in
-      let nothing = ap says_nothing (fields-word (codes "#") text (omega arith) mark) in record {
+  pub silent_goes_on : (past said : List S) (text line rest : List ℕ) → IsPiece text line → says_nothing (fields line) ≡ true → GoesOn kind past said rest
+      → GoesOn kind past said (text ++ rest)
+  silent_goes_on past said text line rest piece nothing more =
+      let whole = lines-first text line rest piece in record {
         short = subst (AllByRecursion IsShort) (sym whole) (piece.short, more.short);
         says = subst (Say kind past said) (sym (ap lines_that_say whole ∙ unsaid line (lines rest) nothing)) more.says;
       }
 
--- what a loop over a list has seen, one item later
-pub flat_map-next : {X A : Type 0} (f : X → List A) (xs : List X) (i : ℕ) (d : X) → i < length xs
-    → flat_map f (take (i + 1) xs) ≡ flat_map f (take i xs) ++ f (get_or xs i d)
-flat_map-next f xs i d inside = ap (flat_map f) (take_more xs i d inside) ∙ sym (flat_map_more f [] (take i xs) (get_or xs i d))
-
-pub All-next : {X : Type 0} (P : X → Type 0) (xs : List X) (i : ℕ) (d : X) → i < length xs → All P (take i xs) → P (get_or xs i d) → All P (take (i + 1) xs)
-All-next P xs i d inside before here = subst (All P) (sym (take_more xs i d inside)) (All-push P (take i xs) (get_or xs i d) before here)
+  -- what a text says after nothing, all its lines say
+  pub goes_on_whole : (said : List S) (text : List ℕ) → GoesOn kind [] said text → Begins kind said (lines text)
+  goes_on_whole said text all = record { short = all.short; says = all.says }
