@@ -33,6 +33,11 @@ Carries Good (Update mac nonce inner) = Good mac nonce
 Carries Good (Teardown mac nonce gateway) = Good mac nonce
 Carries Good message = Unit {0}
 
+-- an Update carries a report of some records, from the gateway's own source
+abbrev pub IsReporting : GatewaySettings → Message → Type 0
+IsReporting settings (Update mac nonce inner) = (records : List Record) × (inner ≡ report_datagram settings.source records)
+IsReporting settings message = Unit {0}
+
 -- the nonces of the Requests
 abbrev pub nonces_asked : List Sending → List ℕ
 nonces_asked sends = filter_map (λ sending. nonce_asked sending.message) sends
@@ -58,9 +63,9 @@ same_peer-is one other same =
 abbrev pub IsSound : (Mac48 → ℕ → Type 0) → GatewaySettings → Option ℕ → Exchange → Type 0
 IsSound Good settings asked exchange = IsSoundBy Good settings.relay asked exchange.state exchange.relay exchange.nonce exchange.query
 
--- the message goes where it should, and an Update's or a Teardown's MAC and nonce are good
+-- the message goes where it should, an Update's or a Teardown's MAC and nonce are good, and an Update carries a report
 abbrev pub IsFit : (Mac48 → ℕ → Type 0) → GatewaySettings → Option Peer → Sending → Type 0
-IsFit Good settings relay sending = IsDirected settings relay sending × Carries Good sending.message
+IsFit Good settings relay sending = IsDirected settings relay sending × Carries Good sending.message × IsReporting settings sending.message
 
 -- each message is fit, and the exchange after the answer is sound
 pub record IsSoundAnswer (Good : Mac48 → ℕ → Type 0) (settings : GatewaySettings) (asked : Option ℕ) (answer : Answer) : Type 0 where
@@ -99,18 +104,19 @@ module _ (Good : Mac48 → ℕ → Type 0) (Given : List ℕ → Type 0) (Left :
   both relay one other first second = All-append (IsFit Good settings relay) one other first second
 
   to_relay-fit : (relay : Option Peer) (full : Bool) (message : Message) → destination settings.discovery relay message ≡ relay → Carries Good message
-      → AllFit relay (to_relay relay full message)
-  to_relay-fit None full message is carries = none None
-  to_relay-fit (Some peer) full message is carries = All-cons (IsFit Good settings (Some peer)) (record { to = peer; message = message; full_report = full }) [] (is, carries) (none (Some peer))
+      → IsReporting settings message → AllFit relay (to_relay relay full message)
+  to_relay-fit None full message is carries reports = none None
+  to_relay-fit (Some peer) full message is carries reports =
+      All-cons (IsFit Good settings (Some peer)) (record { to = peer; message = message; full_report = full }) [] (is, carries, reports) (none (Some peer))
 
   update-fit : (query : Option LastQuery) (exchange : Exchange) (full : Bool) (records : List Record) → IsBy Good query → AllFit exchange.relay (update_by query settings exchange full records)
   update-fit None exchange full records by = none exchange.relay
   update-fit (Some query) exchange full [] by = none exchange.relay
-  update-fit (Some query) exchange full (one ∷ more) by = to_relay-fit exchange.relay full (Update query.mac query.nonce (report_datagram settings.source (one ∷ more))) refl by
+  update-fit (Some query) exchange full (one ∷ more) by = to_relay-fit exchange.relay full (Update query.mac query.nonce (report_datagram settings.source (one ∷ more))) refl by (one ∷ more, refl)
 
   teardown_if-fit : (same : Bool) (exchange : Exchange) (last : LastQuery) (before : EndpointValue) → Good last.mac last.nonce → AllFit exchange.relay (teardown_if same exchange last before)
   teardown_if-fit true exchange last before good = none exchange.relay
-  teardown_if-fit false exchange last before good = to_relay-fit exchange.relay false (Teardown last.mac last.nonce before) refl good
+  teardown_if-fit false exchange last before good = to_relay-fit exchange.relay false (Teardown last.mac last.nonce before) refl good tt
 
   teardown-fit : (before seen : Option EndpointValue) (exchange : Exchange) (last : LastQuery) → Good last.mac last.nonce → AllFit exchange.relay (teardown_by before seen exchange last)
   teardown-fit (Some before) (Some seen) exchange last good = teardown_if-fit (same_endpoint before seen) exchange last before good
@@ -133,7 +139,7 @@ module _ (Good : Mac48 → ℕ → Type 0) (Given : List ℕ → Type 0) (Left :
   discovers : (exchange next : Exchange) → exchange.moment ≡ next.moment → (Sound exchange → Sound next) → IsLawful exchange (discover settings next)
   discovers exchange next same sound =
       heeds exchange (discover settings next) same (λ no. no) refl (λ is. record {
-        sends = All-cons (IsFit Good settings next.relay) (record { to = settings.discovery; message = Discovery next.nonce; full_report = false }) [] (refl, tt) (none next.relay);
+        sends = All-cons (IsFit Good settings next.relay) (record { to = settings.discovery; message = Discovery next.nonce; full_report = false }) [] (refl, tt, tt) (none next.relay);
         next = sound is;
       })
 
@@ -141,7 +147,7 @@ module _ (Good : Mac48 → ℕ → Type 0) (Given : List ℕ → Type 0) (Left :
   ask-sound : (relay : Option Peer) (next : Exchange) → IsSoundBy Good settings.relay (Some next.nonce) InRequesting relay next.nonce next.query
       → SoundAnswer (ask settings (record next { state = InRequesting; relay = relay }))
   ask-sound None next is = let unknown = is.relay.1 in absurd cc
-  ask-sound (Some peer) next is = record { sends = to_relay-fit (Some peer) false (Request settings.v6 next.nonce) refl tt; next = is }
+  ask-sound (Some peer) next is = record { sends = to_relay-fit (Some peer) false (Request settings.v6 next.nonce) refl tt tt; next = is }
 
   asks : (exchange next : Exchange) → exchange.moment ≡ next.moment → (Sound exchange → IsSoundBy Good settings.relay (Some next.nonce) InRequesting next.relay next.nonce next.query)
       → IsLawful exchange (ask settings (record next { state = InRequesting }))
