@@ -124,12 +124,7 @@ fn print_relay_line(alloc: Global, relay: &Ip) -> Result<Bytes, AllocError>
 }
 
 // Puts the lines of an item at the end: its moment and its event, which are read back, or why it is none.
-fn append_item(
-    text: &mut Bytes,
-    relay: &Ip,
-    number: u64,
-    item: &Item,
-) -> Result<(), AllocError>
+fn append_item(text: &mut Bytes, relay: &Ip, number: u64, item: &Item) -> Result<(), AllocError>
     requires { IsShortPacket item.now.packet }
     ensures text { OnOk result (text.new
         ≡ text.old ++ item_lines number item.now (event_in relay.now item.now.packet)) }

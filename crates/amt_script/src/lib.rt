@@ -34,5 +34,6 @@ pub use setting::Setting;
 pub use settling::{Settled, settle};
 pub use statement::{read_moment_item, read_packet, read_rotation, read_show};
 pub use text::{
-    append_datagram_event, append_moment_event, append_packet_event, append_relay_outcome, append_relay_step, print_relay_event, print_relay_step,
+    append_datagram_event, append_moment_event, append_packet_event, append_relay_outcome,
+    append_relay_step, print_relay_event, print_relay_step,
 };

@@ -8,12 +8,12 @@
 //! Standard: RFC 4605, section 4.1; RFC 3376, sections 3.2 and 5.1.
 #![tactic(auto)]
 
+mod changed_group;
 mod count_key;
 mod keys;
 mod looking;
 mod reading;
 mod records;
-mod changed_group;
 mod tally;
 mod upstream;
 

@@ -5,8 +5,8 @@ ghost use Rattle.amt_values.specs.Ascending.{IsAscending};
 ghost use Rattle.endpoint_membership.specs.{Membership.{Membership, membership_order}, MembershipChanges.{AreChanges}};
 ghost use Rattle.amt_upstream.specs.{Counting.{AreInOrder, AreNumbers}, Looking.{IsAfter, IsChangedGroupOf, changed_groups}, Upstream.{records_on, records_between}};
 
-use crate::looking::look_after;
 use crate::changed_group::ChangedGroup;
+use crate::looking::look_after;
 use crate::tally::Tally;
 use endpoint_membership::{MembershipChange, Table};
 use source_filter::{Records, diff};

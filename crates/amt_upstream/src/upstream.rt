@@ -4,10 +4,10 @@ ghost use Rattle.std.specs.Prelude.{◌≡◌, ◌≤◌, ◌*◌, [], ◌∷◌
 ghost use Rattle.endpoint_membership.specs.Table.{AreLawful, ForLog, Holds};
 ghost use Rattle.amt_upstream.specs.{Counting.{IsCounted}, Looking.{IsChangedGroupOf, changed_groups}, Taking.{AreChangesBy, AreNumbersAfter}, Upstream.{AdmitsTheWanted, StaysWithin, changes_after, joined, upstream_filter}};
 
+use crate::changed_group::{ChangedGroup, sides_of};
 use crate::keys::{keys_after, keys_before};
 use crate::looking::look_after;
 use crate::records::changed_records;
-use crate::changed_group::{ChangedGroup, sides_of};
 use crate::tally::Tally;
 use amt_values::Ip;
 use endpoint_membership::{Change, Limits, MembershipChange, Table};
