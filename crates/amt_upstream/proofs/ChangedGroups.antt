@@ -1,7 +1,7 @@
 -- Only groups that change have records, and what a group's changes name is all that may differ of its filter.
 use Rattle.std.{proofs.{Common.{◌≡◌, Bool, true, false, cond, List, [], ◌∷◌, ◌++◌, filter, map, All, refl, sym, ap, ◌∙◌}, lemmas.{Bool.{and_right, or_from, or_parts, true≢false}, Cmp.{tied_itself}, List.{map-append, Elements.{All-head, All-tail}}, Map.Views.{tells_apart}}}, specs.{List.{flat_map}, Ordering.{is_eq}}}
 use Rattle.amt_values.{specs.{declared.address.Ip.{Ip}, Order.{ip_order}, Ascending.{IsAscending, has}}, proofs.{Orders.{ip_order-exact, ip_order-total}, AscendingLaws.{IsAscending-ascending, flat_map-same, has-append, has-ascending}}}
-use Rattle.source_filter.{specs.{Changes.{changes_on}, Merging.{merged}, Record.{lists}}, proofs.Unchanged.{changes_on-itself}}
+use Rattle.source_filter.{specs.{Changes.{changes_on}, Merging.{merged}, Record.{lists}, declared.mode.Mode.TheVariants.{Include}}, proofs.Unchanged.{changes_on-itself}}
 use Rattle.endpoint_membership.{specs.{EndpointGroup.{EndpointGroup, same_endpoint, same_endpoint_group, same_group}, Membership.{Membership, membership_order}, MembershipChanges.{AreChanges, IsChange, changed_pair, changes_pair, filter_at}, declared.membership_change.MembershipChange.{MembershipChange}}, proofs.EndpointGroupOrder.{endpoint_group_order-exact, same_endpoint_group-is}}
 use Rattle.amt_upstream.{specs.{Looking.{changed_groups, changes_on_group, named_by, seen, seen_after, sources_if}, Upstream.{records_on, records_between, filters_in, groups_in, joined}}, proofs.{GroupFilters.{IsUnion-merged, filters_in-none, filters_in-same, some_lists-same}, Narrowed.{Agree, changes_on-seen}}}
 
