@@ -83,7 +83,8 @@ pub fn append_datagram_event(text: &mut Bytes, from: &Peer, bytes: &[u8]) -> Res
     ensures back { OnOk result
         (IsLineOf (events.Datagram bytes.now from.now) (event_text (events.Datagram bytes.now from.now))) }
 {
-    ip_text_names(&from.ip);
+    let Peer { ip, port: _port } = *from;
+    ip_text_names(&ip);
     text.append(b"dg ")?;
     append_peer(text, from)?;
     text.append(b" ")?;
@@ -119,9 +120,14 @@ fn append_limits_event(text: &mut Bytes, limits: &Limits) -> Result<(), AllocErr
     ensures text { OnOk result (text.new ≡ text.old ++ event_text (events.Limits limits.now)) }
     ensures back { OnOk result (IsLineOf (events.Limits limits.now) (event_text (events.Limits limits.now))) }
 {
-    append_numbered(text, b"limits ", u64::from(limits.endpoints))?;
-    append_numbered(text, b" ", u64::from(limits.groups))?;
-    append_numbered(text, b" ", u64::from(limits.sources))?;
+    let Limits {
+        endpoints,
+        groups,
+        sources,
+    } = *limits;
+    append_numbered(text, b"limits ", u64::from(endpoints))?;
+    append_numbered(text, b" ", u64::from(groups))?;
+    append_numbered(text, b" ", u64::from(sources))?;
     text.append(b"\n")
 }
 
