@@ -4,7 +4,7 @@ use Rattle.hex.specs.Hex.{encode_with, lower_digits}
 use Rattle.amt_values.specs.Octets.{AreOctets}
 use Rattle.script_lines.{specs.{Lines.{says_nothing}, Script.{Spells}, Texts.{hex_text}}, proofs.{Pieces.{GoesOn, end_goes_on, goes_on_whole, line_goes_on, piece_of_line}, Words.{fields-word-last, hex_length, hex_word, plain_glyphs}}}
 use Rattle.amt_dump.specs.Lines.{dump_kind}
-use Rattle.amt_pcap.specs.{declared.{capture.{Capture.{Capture}, Item.{Item}}, udp.Datagram.{Datagram}}, Texts.{HasDumpLine, capture_lines_text, is_of_tunnel, payload_line, tunnel_payloads, tunnel_payloads_if, tunnel_payloads_in}, Udp.{datagram_if, datagram_of, has_udp, udp_place}}
+use Rattle.amt_pcap.specs.{declared.capture.{Capture.{Capture}, Item.{Item}}, Texts.{HasDumpLine, capture_lines_text, is_of_tunnel, payload_line, tunnel_payloads, tunnel_payloads_if, tunnel_payloads_in}, Udp.{Datagram, datagram_if, datagram_of, has_udp, udp_place}}
 use Rattle.amt_pcap.proofs.Loops.{flat_map-next}
 
 short_payload : (packet : List ℕ) (place : Option ℕ) → length packet ≤ 65535 → IfSome (datagram_if packet place) (λ one. length one.payload ≤ 65535)
@@ -20,7 +20,7 @@ payload_short packet datagram found short =
 
 pub datagram_said : (datagram : Datagram) → HasDumpLine datagram.payload → All HasDumpLine (tunnel_payloads_if (Some datagram))
 datagram_said datagram said =
-    cond_both (is_of_tunnel datagram) (datagram.payload ∷ []) [] (All HasDumpLine) (λ _. All-cons HasDumpLine datagram.payload [] said (All-nil HasDumpLine))
+    cond_both (is_of_tunnel datagram.ends) (datagram.payload ∷ []) [] (All HasDumpLine) (λ _. All-cons HasDumpLine datagram.payload [] said (All-nil HasDumpLine))
     (λ _. All-nil HasDumpLine)
 
 digit_above : (d : ℕ) → d < 16 → 36 ≤ slice_index lower_digits d

@@ -1,5 +1,5 @@
 -- What a loop over a list has seen, one item later.
-use Rattle.std.proofs.{Common.{◌≡◌, ℕ, ◌+◌, ◌<◌, List, ◌++◌, take, get_or, All, flat_map, sym, ap, subst, ◌∙◌}, lemmas.List.{flat_map_more, take_more, Elements.{All-push}}}
+use Rattle.std.proofs.{Common.{◌≡◌, ℕ, ◌+◌, ◌<◌, List, [], ◌++◌, length, take, get_or, All, flat_map, sym, ap, subst, ◌∙◌}, lemmas.List.{flat_map_more, take_more, Elements.{All-push}}}
 
 pub flat_map-next : {X A : Type 0} (f : X → List A) (xs : List X) (i : ℕ) (d : X) → i < length xs
     → flat_map f (take (i + 1) xs) ≡ flat_map f (take i xs) ++ f (get_or xs i d)

@@ -2,9 +2,8 @@
 
 ghost use Rattle.std.specs.Prelude.{◌≡◌, ◌≤◌, ◌++◌, length, option_map, IfOk, IfSome, OnOk, Ok};
 ghost use Rattle.amt_values.specs.Text.{IsIpText, ip_text};
-ghost use Rattle.inner_datagrams.specs.Head.{head_of};
 ghost use Rattle.amt_script.specs.{Printed.{IsLineOf}, Script.{IsRelayScript}, Texts.{event_text}};
-ghost use Rattle.amt_pcap.specs.Texts.{HasShortPackets, IsReadBack, IsShortPacket, capture_script_text, captured_script, event_from, event_in, is_to, is_to_group, item_lines, reason_line, reason_of, relay_line, tail_line};
+ghost use Rattle.amt_pcap.specs.Texts.{HasShortPackets, IsReadBack, IsShortPacket, capture_script_text, captured_script, event_from, event_in, is_to, item_lines, reason_line, reason_of, relay_line, tail_line};
 
 use crate::capture::{Capture, Item, Skip};
 use crate::udp::{Ends, datagram_of};
@@ -21,16 +20,6 @@ fn is_to(relay: &Ip, ends: &Ends) -> bool
     ends.destination.ip == *relay && ends.destination.port == AMT_PORT
 }
 
-// Whether the packet is one that a relay would copy.
-fn is_to_group(packet: &[u8]) -> bool
-    ensures { result ≡ is_to_group (head_of packet.now) }
-{
-    match packet_head(packet) {
-        Ok(head) => forwardable(&head.group),
-        Err(_) => false,
-    }
-}
-
 // What a packet is to a relay at this address, if anything: a datagram's source and data, or a packet without a source.
 fn event_of<'a>(relay: &Ip, packet: &'a [u8]) -> Option<(Option<Peer>, &'a [u8])>
     requires { length packet.now ≤ 65535 }
@@ -42,7 +31,10 @@ fn event_of<'a>(relay: &Ip, packet: &'a [u8]) -> Option<(Option<Peer>, &'a [u8])
             return Some((Some(ends.source), payload));
         }
     }
-    if !is_to_group(packet) {
+    let Ok(head) = packet_head(packet) else {
+        return None;
+    };
+    if !forwardable(&head.group) {
         return None;
     }
     Some((None, packet))

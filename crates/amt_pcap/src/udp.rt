@@ -104,7 +104,9 @@ pub fn datagram_of(packet: &[u8]) -> Option<(Ends, &[u8])>
     if packet.len() < LEAST {
         return None;
     }
-    let place = udp_place(packet)?;
+    let Some(place) = udp_place(packet) else {
+        return None;
+    };
     if !has_udp(packet, place) {
         return None;
     }
