@@ -5,7 +5,7 @@ use Rattle.endpoint_membership.specs.declared.change.Change.{Change}
 use Rattle.gateway_machine.specs.declared.event.GatewayEvent.{GatewayEvent, TheVariants.{Moment as Passes}}
 use Rattle.relay_machine.{specs.{Accepted.{accepted_back, accepted_log, entry_of, with_change}, Events.{moment_in, now_of}, declared.{event.Event.{Event, TheVariants.{Moment, Packet, Rotate}}, sends.OneSend.{OneSend}}}, proofs.Onward.{accepted-push}}
 use Rattle.amt_pair.specs.Schedule.{Course, Entry, FitsItsType, IsPairEvent, MayCome, Member, Upward, course_of, delivery_down, delivery_up, down_delivered, has_name, is_at, numbered, start, up_delivered, with_entry, with_gateway_event, with_member_event, with_pair_event, with_relay_event}
-use Rattle.amt_pair.{specs.{Setup.{Host, PairSetup}, State.{PairAt, StandsFor, hosts_of}, declared.{event.PairEvent.{PairEvent, TheVariants.{Down, Moment as MomentForAll, Packet as PacketComes, Rotate as SecretComes, Socket, Up}}, pair.Pair.{Pair}}}, proofs.MembersAt.{host_at, hosts_are}}
+use Rattle.amt_pair.{specs.{Setup.{Host, PairSetup, first_nonce}, State.{PairAt, StandsFor, hosts_of}, declared.{event.PairEvent.{PairEvent, TheVariants.{Down, Moment as MomentForAll, Packet as PacketComes, Rotate as SecretComes, Socket, Up}}, pair.Pair.{Pair}}}, proofs.MembersAt.{host_at, hosts_are}}
 
 -- one more event
 pub course_of-more : (setup : PairSetup) (schedule : List PairEvent) (event : PairEvent)
@@ -65,7 +65,7 @@ reached_hosts event reaches (member ∷ members) =
     let rest = reached_hosts event reaches members in
     cc
 
-pub start_hosts : (hosts : List Host) → map host_at (map (λ host. record { host = host; events = [] }) hosts) ≡ hosts
+pub start_hosts : (hosts : List Host) → map host_at (map (λ host. record { host = host; first = first_nonce; events = [] }) hosts) ≡ hosts
 start_hosts [] = refl
 start_hosts (host ∷ hosts) = ap (λ (rest : List Host). host ∷ rest) (start_hosts hosts)
 

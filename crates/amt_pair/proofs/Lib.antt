@@ -16,15 +16,19 @@ pub mod MadeGood
 pub mod MembersAt
 pub mod Moments
 pub mod Numbers
+pub mod PairAgrees
 pub mod PairStates
+pub mod PairSteps
 pub mod PeerReports
 pub mod QueryTimes
+mod ReadFamilies
 pub mod ReadQueries
 pub mod ReadReports
 pub mod RelayEntries
 pub mod RelaySteps
 pub mod ReportedAddresses
 pub mod ReportedRecords
+pub mod Sights
 pub mod SilentEntries
 pub mod SpelledKinds
 pub mod StepReports

@@ -1,9 +1,9 @@
 -- Items of lists: where they stand, and what a list of them comes to with one more at its end.
-use Rattle.std.proofs.{Common.{◌≡◌, ℕ, zero, suc, ◌-◌, ◌⊎◌, nat_lt, Bool, true, false, cond, List, [], ◌∷◌, ◌++◌, reverse, slice_get, Contains, Option, Some, None, refl, ap, ◌∙◌, arith, inl, inr}, lemmas.{Bool.{cond_both}, List.{append-nil, Elements.{Contains-append_right, filter-append}}, Option.{get_or_from_slice_get, slice_get_within}}}
+use Rattle.std.proofs.{Common.{◌≡◌, ℕ, zero, suc, ◌-◌, ◌⊎◌, nat_lt, Bool, true, false, cond, List, [], ◌∷◌, ◌++◌, map, reverse, slice_get, Contains, Option, Some, None, refl, ap, ◌∙◌, arith, inl, inr}, lemmas.{Bool.{cond_both}, List.{append-nil, get_or-map, length-map, Elements.{Contains-append_right, filter-append}}, Option.{get_or_from_slice_get, slice_get_within}}}
 use Rattle.std.specs.List.{cons_option, filter, filter_map}
 use mathlib.Core.List.{reverse-cons}
 use Rattle.gateway_machine.specs.Laws.{last_of}
-use Rattle.amt_pair.specs.Schedule.{numbered}
+use Rattle.amt_pair.{specs.{Schedule.{Member, numbered}, Setup.{Host}}, proofs.MembersAt.{host_at}}
 
 module _ {X : Type 0} where
   -- ---- where an item stands
@@ -73,3 +73,7 @@ Contains-filter_map {X} {Y} f (first ∷ xs) x y among is = elim (first-is first
     onto : (found : Option Y) → Contains (filter_map f xs) y → Contains (cons_option found (filter_map f xs)) y
     onto None rest = rest
     onto (Some z) rest = Contains-later z y (filter_map f xs) rest
+
+-- the host of a listed member is listed
+pub contains-host : (members : List Member) (member : Member) → Contains members member → Contains (map host_at members) member.host
+contains-host members member (k, below, is) = (k, omega (arith, length-map members host_at), get_or-map host_at members k member member.host below ∙ ap host_at is)

@@ -3,25 +3,22 @@ use Rattle.std.{proofs.{Common.{◌≡◌, ◌≤◌, ◌<◌, ℕ, zero, suc, �
 use Rattle.amt_values.specs.declared.peer.Peer.{Peer}
 use Rattle.gateway_machine.specs.{Answers.{history_after, same_peer}, Sends.{Sending, datagram_of}, declared.{event.GatewayEvent.{GatewayEvent}, exchange.Exchange.{Exchange}, step.PeerSend.{PeerSend}}}
 use Rattle.socket_merge.specs.History.{AcceptedCall, same_name}
-use Rattle.amt_pair.{specs.{Members.{AreMembersAt, AreShort, IsMemberAt, host_of, kept_datagram, kept_upward}, Schedule.{Member, Upward, answer_at, run_of_member, upwards_on}, Sent.{Sent}, Setup.{Host, has_taken}, declared.{datagrams.UpDatagram.{UpDatagram}, gateways.NamedGateway.{NamedGateway}}}, proofs.Alone.{NonePasses}}
+use Rattle.amt_pair.{specs.{Members.{AreMembersAt, AreShort, IsMemberAt, host_of, kept_datagram, kept_upward}, Schedule.{Member, answer_at, run_of_member, upward_of, upwards_on}, Sent.{Sent}, Setup.{Host, has_taken}, declared.{datagrams.UpDatagram.{UpDatagram}, gateways.NamedGateway.{NamedGateway}}}, proofs.Alone.{NonePasses}}
 
 abbrev sent_with : Exchange → List AcceptedCall → Sending → Sent
 sent_with next history sending = record { sending = sending; exchange = next; history = history }
 
-abbrev upward_from : Peer → Sent → Upward
-upward_from from sent = record { from = from; sent = sent }
-
-kept_by : (from : Peer) (next : Exchange) (history : List AcceptedCall) (sends : List Sending)
-    → map kept_upward (map (upward_from from) (map (sent_with next history) sends)) ≡ map (kept_datagram from) (map datagram_of sends)
-kept_by from next history [] = refl
-kept_by from next history (sending ∷ sends) =
-    ap (λ (rest : List UpDatagram). kept_datagram from (datagram_of sending) ∷ rest) (kept_by from next history sends)
+kept_by : (host : Host) (next : Exchange) (history : List AcceptedCall) (sends : List Sending)
+    → map kept_upward (map (upward_of host) (map (sent_with next history) sends)) ≡ map (kept_datagram host.peer) (map datagram_of sends)
+kept_by host next history [] = refl
+kept_by host next history (sending ∷ sends) =
+    ap (λ (rest : List UpDatagram). kept_datagram host.peer (datagram_of sending) ∷ rest) (kept_by host next history sends)
 
 -- the datagrams that are kept of an event are those of the answer
 pub kept_each : (from : Peer) (event : GatewayEvent) (member : Member) → from ≡ member.host.peer
     → map kept_upward (upwards_on event member) ≡ map (kept_datagram from) (map datagram_of (answer_at member event).sends)
 kept_each from event member is =
-    kept_by member.host.peer (answer_at member event).next (history_after (run_of_member member).exchange (run_of_member member).history event)
+    kept_by member.host (answer_at member event).next (history_after (run_of_member member).exchange (run_of_member member).history event)
     (answer_at member event).sends
     ∙ ap (λ (peer : Peer). map (kept_datagram peer) (map datagram_of (answer_at member event).sends)) (sym is)
 

@@ -32,7 +32,7 @@ module _ (at : ℕ) where
         → ((member : Member) → IsMemberAt named member → part ≡ gateway_part (Passes at) member)
         → parts_after ≡ parts ++ part ∷ [] → HasComeTo at (place + 1) members (set gateways place next) up_before up_after parts_before parts_after
     come_to_next named next up_after parts_after part within is next_at sent part_is parts_are =
-        let member : Member = get_or members place (record { host = host_of named; events = [] }) in
+        let member : Member = get_or members place (record { host = host_of named; first = 0; events = [] }) in
         let front = map reached_by (take place members) in
         let all = front ++ drop place members in
         let long : length front ≡ place = length-map (take place members) reached_by ∙ length-take-le place members (omega arith) in

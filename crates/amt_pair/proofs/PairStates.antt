@@ -6,7 +6,7 @@ use Rattle.gateway_machine.specs.declared.event.GatewayEvent.{GatewayEvent, TheV
 use Rattle.relay_machine.specs.{Accepted.{change_of}, Answers.{outcome_of, sends_of}, declared.{event.Event.{Event}, relay.Relay.{Relay as RelayValue}, sends.{OneSend.{OneSend}, Step.{Step}}}}
 use Rattle.socket_merge.specs.History.{same_name}
 use Rattle.amt_pair.specs.{Members.{AreMembersAt, AreShort, AreShortSends, IsMemberAt, host_of, kept_upward}, OwnEndpoints.{HasOwnEndpoint}, Parts.{relay_step}}
-use Rattle.amt_pair.specs.{Schedule.{Course, IsPairEvent, Member, Upward, has_name, is_at, is_endpoint, start, upwards_on, with_gateway_event}, Setup.{AreApart, Host, IsLawfulSetup, PairSetup, relay_peer}, State.{PairAt, StandsFor}}
+use Rattle.amt_pair.specs.{Schedule.{Course, IsPairEvent, Member, Upward, has_name, is_at, is_endpoint, start, upwards_on, with_gateway_event}, Setup.{AreApart, Host, IsLawfulSetup, PairSetup, first_nonce, relay_peer}, State.{PairAt, StandsFor}}
 use Rattle.amt_pair.{specs.declared.{pair.Pair.{Pair}, datagrams.UpDatagram.{UpDatagram}, gateways.NamedGateway.{NamedGateway}, step.Part.TheVariants.{Relay}}, proofs.{Courses.{course_of-none}, Alone.{PassesOnce, filter_every}, Deliveries.{IsForOne, for_one}, HostsApart.{once_by_endpoint, once_by_name}, MembersAt.{are_at, host_is, hosts_are, lengths_are, members_more}}}
 
 -- a step of the relay is told by its fields
@@ -100,7 +100,7 @@ pair_at_start pair setup lawful stands = record {
 }
 
 abbrev pub member_at_start : Host → Member
-member_at_start host = record { host = host; events = [] }
+member_at_start host = record { host = host; first = first_nonce; events = [] }
 
 pub members_at_start : (gateways after : List NamedGateway) (hosts : List Host) (named : NamedGateway) (host : Host) → AreMembersAt gateways (map member_at_start hosts)
     → IsMemberAt named (member_at_start host) → after ≡ gateways ++ named ∷ [] → AreMembersAt after (map member_at_start (hosts ++ host ∷ []))

@@ -1,14 +1,14 @@
--- What the entry that a datagram of a gateway makes at the relay is for one gateway.
-use Rattle.std.proofs.{Common.{◌≡◌, ℕ, ◌+◌, ◌≤◌, Bool, true, false, cond, List, length, All, Contains, Some, None, Result, Ok, refl, sym, ap, subst, ◌∙◌, arith, inl, inr}, lemmas.{Bool.{cases_Bool, cond-false, cond-true, false_from_ne_true}, Map.Views.{tells_apart}}}
-use Rattle.amt_values.{specs.{Endpoint.{endpoint_of}, EndpointValue.{EndpointValue}, Group.{is_forwardable}, declared.{mac.Mac48.{Mac48}, peer.Peer.{Peer}}}, proofs.{OnePeer.{one_peer}, Orders.{endpoint_order-exact}}}
+-- What the entry that a datagram of a gateway makes at the relay is for one gateway, as it sees the log.
+use Rattle.std.proofs.{Common.{◌≡◌, ℕ, ◌+◌, ◌≤◌, Bool, true, false, cond, List, length, reverse, All, Contains, Some, None, Result, Ok, refl, sym, ap, subst, ◌∙◌, arith, inl, inr}, lemmas.{Bool.{cases_Bool, cond-false, cond-true, true≢false}, Map.Views.{tells_apart}}}
+use Rattle.amt_values.{specs.{Endpoint.{endpoint_of}, EndpointValue.{EndpointValue}, Group.{is_forwardable}, declared.{address.Ip.{Ip}, mac.Mac48.{Mac48}, peer.Peer.{Peer}}}, proofs.{OnePeer.{one_peer}, Orders.{endpoint_order-exact}}}
 use Rattle.amt_messages.specs.{Layout.{spelling_of}, Refusal.{message_of}, declared.message.Message.{Message, TheVariants.{Update, Teardown}}}
 use Rattle.response_mac.specs.declared.secret.Secret.{Secret}
 use Rattle.source_filter.specs.declared.record.Record.{Record}
-use Rattle.endpoint_membership.specs.{EndpointGroup.{same_endpoint}, Log.{brought}, declared.change.Change.{Change, TheVariants.{Reported}}}
+use Rattle.endpoint_membership.specs.{EndpointGroup.{same_endpoint}, Log.{brought, on_group, records_at}, declared.change.Change.{Change, TheVariants.{Mark, Reported}}}
 use Rattle.gateway_machine.specs.{Answers.{same_peer}, Timing.{farewell_ms}}
 use Rattle.relay_machine.specs.{Accepted.{entry_of}, Events.{now_of}, Updates.{forwardable_records, report_in}, declared.{event.Event.{Event}, outcome.Unlawful.{Unlawful}, settings.Settings.{Settings}}}
-use Rattle.amt_pair.specs.{Agreement.{report_from}, Entries.{is_change_of}, Schedule.{Upward, delivery_up}, Sent.{Sent, SentReport, report_by as report_as, report_of, report_with}, Setup.{IsPeer}}
-use Rattle.amt_pair.proofs.{Alone.{filter_every}, HeardQueries.{same_peer-is, same_peer-itself}, RelaySteps.{IsTornDown, IsUpdated, datagram-entry}, SpelledKinds.{same-kind, update-inner}, TunnelEntries.{IsMadeBy, IsPrompt, made-cleared, made-other, made-reported}, TunnelReports.{IsForwarded}, Upwards.{IsUpward}}
+use Rattle.amt_pair.specs.{Entries.{is_change_of}, Schedule.{Upward, delivery_up}, Sent.{Sent, SentReport, report_by as report_as, report_of, report_with}, Setup.{IsPeer}}
+use Rattle.amt_pair.proofs.{Alone.{filter_every}, HeardQueries.{same_peer-is, same_peer-itself}, RelaySteps.{IsTornDown, IsUpdated, datagram-entry}, Sights.{Sight, alone_at, brought-seen, report_seen}, SpelledKinds.{same-kind, update-inner}, TunnelEntries.{IsMadeBy, IsPrompt, in_group, made-cleared, made-other, reported-here}, TunnelReports.{IsForwarded}, Upwards.{IsUpward}}
 
 -- endpoints that are told to be one are one
 
@@ -33,85 +33,129 @@ teardown-report sent (Update other_mac other inner) mac nonce named read =
     let kind = same-kind (Update other_mac other inner) (Teardown mac nonce named) read in absurd (omega arith)
 teardown-report sent other mac nonce named read = refl
 
--- ---- the entry for one peer
+-- ---- the entry as a gateway sees it
 
--- the entry is of this moment, and made by the peer's report or says nothing of its endpoint; where the datagram
+-- The gateway is at the peer, which this endpoint is. It sees all records of its own reports there; of another's report
+-- from its peer it sees a moment alone.
+pub record IsSightAt (sight : Sight) (peer : Peer) (endpoint : EndpointValue) : Type 0 where
+  pub mine : (upward : Upward) → sight.is_from upward ≡ true → upward.from ≡ peer
+  pub said : (upward : Upward) (report : SentReport) (at : ℕ) → IsUpward upward → report_seen sight upward ≡ Some report → (group : Ip)
+      → records_at (in_group endpoint group) (sight.seen (Reported endpoint report.records at)) ≡ reverse (on_group group report.records)
+  pub others : (upward : Upward) (report : SentReport) (at : ℕ) → IsUpward upward → sight.is_from upward ≡ false → upward.from ≡ peer
+      → report_of upward.sent ≡ Some report → sight.seen (Reported endpoint (forwardable_records report.records) at) ≡ Mark at
+
+-- a gateway that is alone at its peer sees all
+pub alone-sight : (peer : Peer) (endpoint : EndpointValue) → IsSightAt (alone_at peer) peer endpoint
+alone-sight peer endpoint = record {
+  mine = λ upward from. sym (same_peer-is peer upward.from from);
+  said = λ upward report at is_upward found group. reported-here endpoint report.records at group;
+  others = λ upward report at is_upward other from found.
+      absurd (true≢false (sym (subst (λ (one : Peer). same_peer peer one ≡ true) (sym from) (same_peer-itself peer)) ∙ other));
+}
+
+-- the entry is of this moment, and made by the gateway's report or says nothing of its endpoint; where the datagram
 -- is in time, the report is
-pub record IsEntryOf (peer : Peer) (endpoint : EndpointValue) (sent : List SentReport) (now : ℕ) (upward : Upward) (change : Change) : Type 0 where
-  pub made : IsMadeBy endpoint sent change (report_from peer upward)
-  pub early : brought change ≤ now
-  pub prompt : (upward.from ≡ peer → now ≤ upward.sent.exchange.moment + 60000) → IsPrompt (report_from peer upward) now
+pub record IsEntryOf (sight : Sight) (endpoint : EndpointValue) (sent : List SentReport) (now : ℕ) (upward : Upward) (change : Change) : Type 0 where
+  pub made : IsMadeBy endpoint sent (sight.seen change) (report_seen sight upward)
+  pub early : brought (sight.seen change) ≤ now
+  pub prompt : (sight.is_from upward ≡ true → now ≤ upward.sent.exchange.moment + 60000) → IsPrompt (report_seen sight upward) now
 
-module _ (peer : Peer) (endpoint : EndpointValue) (peer_is : IsPeer peer) (own : endpoint_of peer ≡ Some endpoint) (upward : Upward) (is_upward : IsUpward upward)
-    (sent : List SentReport) (now : ℕ) (change : Change) where
+module _ (sight : Sight) (peer : Peer) (endpoint : EndpointValue) (sees : IsSightAt sight peer endpoint) (peer_is : IsPeer peer) (own : endpoint_of peer ≡ Some endpoint)
+    (upward : Upward) (is_upward : IsUpward upward) (sent : List SentReport) (now : ℕ) (change : Change) where
   -- the endpoint that is told to be the peer's is of no other
-  endpoint-own : (source : EndpointValue) → endpoint_of upward.from ≡ Some source → same_endpoint endpoint source ≡ true → same_peer peer upward.from ≡ true
+  endpoint-own : (source : EndpointValue) → endpoint_of upward.from ≡ Some source → same_endpoint endpoint source ≡ true → upward.from ≡ peer
   endpoint-own source found same =
       let one = same_endpoint-is endpoint source same in
-      let both = one_peer peer upward.from endpoint peer_is.address is_upward.peer.address own (found ∙ ap (λ (other : EndpointValue). Some other) (sym one)) in
-      subst (λ (from : Peer). same_peer peer from ≡ true) (sym both) (same_peer-itself peer)
+      one_peer peer upward.from endpoint peer_is.address is_upward.peer.address own (found ∙ ap (λ (other : EndpointValue). Some other) (sym one))
 
-  updated-entry : IsUpdated (endpoint_of upward.from) (message_of (spelling_of upward.sent.sending.message)) now change
-      → ((report : SentReport) → report_from peer upward ≡ Some report → Contains sent report × All IsForwarded report.records)
-      → IsEntryOf peer endpoint sent now upward change
-  updated-entry updated known =
-      let early : brought change ≤ now = subst (λ (one : Change). brought one ≤ now) (sym updated.is) (omega arith) in
-      elim (cases_Bool (same_peer peer upward.from)) [
-        | inl same ↦
-            let report : SentReport = record {
-              records = updated.records;
-              full_report = upward.sent.sending.full_report;
-              moment = upward.sent.exchange.moment;
-              keep_ms = farewell_ms upward.sent.exchange.query;
-              history = upward.sent.history;
-            } in
-            let found : report_from peer upward ≡ Some report =
-            cond-true (same_peer peer upward.from) (report_of upward.sent) None same
-            ∙ update-report upward.sent upward.sent.sending.message updated.mac updated.nonce updated.inner updated.records is_upward.mac updated.read updated.report in
-            let facts = known report found in
-            let from = sym (same_peer-is peer upward.from same) in
-            let source : Some updated.source ≡ Some endpoint = sym updated.found_is ∙ ap endpoint_of from ∙ own in
-            let source_is : updated.source ≡ endpoint = cc in
-            let is : change ≡ Reported endpoint updated.records now =
-            updated.is ∙ ap (λ (one : EndpointValue). Reported one (forwardable_records updated.records) now) source_is
-            ∙ ap (λ (records : List Record). Reported endpoint records now) (filter_every (λ one. is_forwardable one.group) updated.records facts.1) in
-            record {
-              made = subst (IsMadeBy endpoint sent change) (sym found)
-                  (subst (λ (one : Change). IsMadeBy endpoint sent one (Some report)) (sym is) (made-reported endpoint sent report now facts.0));
-              early = early;
-              prompt = λ in_time. subst (λ by. IsPrompt by now) (sym found) (in_time from);
-            }
-        | inr other ↦ let none : report_from peer upward ≡ None = cond-false (same_peer peer upward.from) (report_of upward.sent) None other in record {
-          made = subst (IsMadeBy endpoint sent change) (sym none)
-              (made-other endpoint sent change
-              (ap (is_change_of endpoint) updated.is
-              ∙ false_from_ne_true (same_endpoint endpoint updated.source) (λ same. let one = endpoint-own updated.source updated.found_is same in cc)));
-          early = early;
-          prompt = λ in_time. subst (λ by. IsPrompt by now) (sym none) tt;
+  seen-early : brought change ≤ now → brought (sight.seen change) ≤ now
+  seen-early early = subst (λ (at : ℕ). at ≤ now) (sym (brought-seen sight change)) early
+
+  -- an entry that no report of the gateway made, and that says nothing of its endpoint as it sees it
+  other-entry : report_seen sight upward ≡ None → brought change ≤ now → IsMadeBy endpoint sent (sight.seen change) None → IsEntryOf sight endpoint sent now upward change
+  other-entry none early made = record {
+    made = subst (IsMadeBy endpoint sent (sight.seen change)) (sym none) made;
+    early = seen-early early;
+    prompt = λ in_time. subst (λ by. IsPrompt by now) (sym none) tt;
+  }
+
+  -- what is said of others is seen as that, or not at all
+  made-seen : IsMadeBy endpoint sent change None → IsMadeBy endpoint sent (sight.seen change) None
+  made-seen made = elim (sight.stays change) [
+    | inl same ↦ subst (λ (one : Change). IsMadeBy endpoint sent one None) (sym same) made
+    | inr mark ↦ subst (λ (one : Change). IsMadeBy endpoint sent one None) (sym mark) (made-other endpoint sent (Mark (brought change)) refl)
+  ]
+
+  module _ (updated : IsUpdated (endpoint_of upward.from) (message_of (spelling_of upward.sent.sending.message)) now change) where
+    abbrev report : SentReport
+    report = record {
+      records = updated.records;
+      full_report = upward.sent.sending.full_report;
+      moment = upward.sent.exchange.moment;
+      keep_ms = farewell_ms upward.sent.exchange.query;
+      history = upward.sent.history;
+    }
+
+    carried : report_of upward.sent ≡ Some report
+    carried = update-report upward.sent upward.sent.sending.message updated.mac updated.nonce updated.inner updated.records is_upward.mac updated.read updated.report
+
+    early : brought change ≤ now
+    early = subst (λ (one : Change). brought one ≤ now) (sym updated.is) (omega arith)
+
+    is-at : (source : EndpointValue) → updated.source ≡ source → change ≡ Reported source (forwardable_records updated.records) now
+    is-at source same = updated.is ∙ ap (λ (one : EndpointValue). Reported one (forwardable_records updated.records) now) same
+
+    own-entry : sight.is_from upward ≡ true → ((report : SentReport) → report_seen sight upward ≡ Some report → Contains sent report × All IsForwarded report.records)
+        → IsEntryOf sight endpoint sent now upward change
+    own-entry from known =
+        let found : report_seen sight upward ≡ Some report = cond-true (sight.is_from upward) (report_of upward.sent) None from ∙ carried in
+        let facts = known report found in
+        let source : Some updated.source ≡ Some endpoint = sym updated.found_is ∙ ap endpoint_of (sees.mine upward from) ∙ own in
+        let source_is : updated.source ≡ endpoint = cc in
+        let is : change ≡ Reported endpoint updated.records now =
+        is-at endpoint source_is ∙ ap (λ (records : List Record). Reported endpoint records now) (filter_every (λ one. is_forwardable one.group) updated.records facts.1) in
+        record {
+          made = subst (IsMadeBy endpoint sent (sight.seen change)) (sym found) (facts.0, λ group.
+              ap (λ (one : Change). records_at (in_group endpoint group) (sight.seen one)) is ∙ sees.said upward report now is_upward found group);
+          early = seen-early early;
+          prompt = λ in_time. subst (λ by. IsPrompt by now) (sym found) (in_time from);
         }
-      ]
+
+    others-entry : sight.is_from upward ≡ false → IsEntryOf sight endpoint sent now upward change
+    others-entry other =
+        other-entry (cond-false (sight.is_from upward) (report_of upward.sent) None other) early (elim (cases_Bool (same_endpoint endpoint updated.source)) [
+          | inl same ↦
+              let from = endpoint-own updated.source updated.found_is same in
+              let is = is-at endpoint (sym (same_endpoint-is endpoint updated.source same)) in
+              let mark : sight.seen change ≡ Mark now = ap sight.seen is ∙ sees.others upward report now is_upward other from carried in
+              subst (λ (one : Change). IsMadeBy endpoint sent one None) (sym mark) (made-other endpoint sent (Mark now) refl)
+          | inr apart ↦ made-seen (made-other endpoint sent change (ap (is_change_of endpoint) updated.is ∙ apart))
+        ])
+
+    updated-entry : ((report : SentReport) → report_seen sight upward ≡ Some report → Contains sent report × All IsForwarded report.records)
+        → IsEntryOf sight endpoint sent now upward change
+    updated-entry known = elim (cases_Bool (sight.is_from upward)) [
+      | inl from ↦ own-entry from known
+      | inr other ↦ others-entry other
+    ]
 
   no-report : (one : Bool) → report_of upward.sent ≡ None → cond one (report_of upward.sent) None ≡ None
   no-report true none = none
   no-report false none = refl
 
-  torn-entry : IsTornDown (message_of (spelling_of upward.sent.sending.message)) now change → IsEntryOf peer endpoint sent now upward change
+  torn-entry : IsTornDown (message_of (spelling_of upward.sent.sending.message)) now change → IsEntryOf sight endpoint sent now upward change
   torn-entry torn =
-      let none : report_from peer upward ≡ None = no-report (same_peer peer upward.from) (teardown-report upward.sent upward.sent.sending.message torn.mac torn.nonce torn.named torn.read) in
-      record {
-        made = subst (IsMadeBy endpoint sent change) (sym none)
-            (subst (λ (one : Change). IsMadeBy endpoint sent one None) (sym torn.is) (made-cleared endpoint torn.named sent now));
-        early = subst (λ (one : Change). brought one ≤ now) (sym torn.is) (omega arith);
-        prompt = λ in_time. subst (λ by. IsPrompt by now) (sym none) tt;
-      }
+      other-entry (no-report (sight.is_from upward) (teardown-report upward.sent upward.sent.sending.message torn.mac torn.nonce torn.named torn.read))
+      (subst (λ (one : Change). brought one ≤ now) (sym torn.is) (omega arith))
+      (made-seen (subst (λ (one : Change). IsMadeBy endpoint sent one None) (sym torn.is) (made-cleared endpoint torn.named sent now)))
 
 -- the entry that a delivery makes
-pub delivery-entry : (settings : Settings) (first : Secret) (events : List Event) (peer : Peer) (endpoint : EndpointValue) (upward : Upward) (sent : List SentReport) (change : Change)
-    → IsPeer peer → endpoint_of peer ≡ Some endpoint → IsUpward upward
-    → ((report : SentReport) → report_from peer upward ≡ Some report → Contains sent report × All IsForwarded report.records)
-    → entry_of settings first events (delivery_up upward) ≡ Some change → IsEntryOf peer endpoint sent (now_of events) upward change
-delivery-entry settings first events peer endpoint upward sent change peer_is own is_upward known is =
+pub delivery-entry : (sight : Sight) (settings : Settings) (first : Secret) (events : List Event) (peer : Peer) (endpoint : EndpointValue) (upward : Upward) (sent : List SentReport) (change : Change)
+    → IsSightAt sight peer endpoint → IsPeer peer → endpoint_of peer ≡ Some endpoint → IsUpward upward
+    → ((report : SentReport) → report_seen sight upward ≡ Some report → Contains sent report × All IsForwarded report.records)
+    → entry_of settings first events (delivery_up upward) ≡ Some change → IsEntryOf sight endpoint sent (now_of events) upward change
+delivery-entry sight settings first events peer endpoint upward sent change sees peer_is own is_upward known is =
     elim (datagram-entry settings first events (spelling_of upward.sent.sending.message) upward.from change is) [
-      | inl updated ↦ updated-entry peer endpoint peer_is own upward is_upward sent (now_of events) change updated known
-      | inr torn ↦ torn-entry peer endpoint peer_is own upward is_upward sent (now_of events) change torn
+      | inl updated ↦ updated-entry sight peer endpoint sees peer_is own upward is_upward sent (now_of events) change updated known
+      | inr torn ↦ torn-entry sight peer endpoint sees peer_is own upward is_upward sent (now_of events) change torn
     ]

@@ -1,10 +1,10 @@
 -- The records of a full report, and those of a change, by group.
 use Rattle.std.{proofs.{Common.{◌≡◌, ◌≢◌, ℕ, ◌&&◌, Bool, false, List, [], ◌∷◌, ◌++◌, refl, sym, ap, ◌∙◌, append-nil, inl, inr}, lemmas.{Bool.{and_cases, false_from_ne_true, or_parts}, Cmp.{eq_by_cmp_equiv}, List.Elements.{filter-append}}}, specs.List.{All, flat_map}}
-use Rattle.amt_values.{specs.{Order.{ip_order}, declared.address.Ip.{Ip}, Ascending.{IsAscending, ascending, has}}, proofs.{Orders.{ip_order-exact, ip_order-total}, AscendingLaws.{IsAscending-ascending, IsAscending-filter, has-ascending, has-filter}}}
-use Rattle.source_filter.{specs.{Changes.{changes_on}, Filter.{FilterValue}, declared.record.Record.{Record}}, proofs.AppliedChanges.{changes-applied}}
+use Rattle.amt_values.{specs.{Order.{ip_order}, declared.address.Ip.{Ip}, Ascending.{IsAscending, ascending, has}}, proofs.{Orders.{ip_order-exact, ip_order-total}, AscendingLaws.{IsAscending-ascending, IsAscending-filter, flat_map-same, has-ascending, has-filter}}}
+use Rattle.source_filter.{specs.{Changes.{changes_on}, Filter.{FilterValue}, declared.record.Record.{Record}}, proofs.{AppliedChanges.{changes-applied}, Unchanged.{changes_on-itself}}}
 use Rattle.group_records.specs.{Written.{is_of_family}, declared.family.Family.{Family}}
 use Rattle.endpoint_membership.specs.Log.{on_group}
-use Rattle.socket_merge.{specs.{Changes.{change_records}, FullReport.{farewell, full_on, full_report_of, groups_of, is_recent, states}, History.{AcceptedCall, groups_opened}, Interface.{interface, is_wanted, left_at, same_group}}, proofs.{ByGroup.{flat_map-same, never_left, unwanted}, Changed.{All-changes_by}, Reports.{all_by}, ShortChanges.{changes-itself}, Wanted.{same_group-itself}}}
+use Rattle.socket_merge.{specs.{Changes.{change_records}, FullReport.{farewell, full_on, full_report_of, groups_of, is_recent, states}, History.{AcceptedCall, groups_opened}, Interface.{interface, is_wanted, left_at, same_group}}, proofs.{ByGroup.{never_left, unwanted}, Changed.{All-changes_by}, Reports.{all_by}, Wanted.{same_group-itself}}}
 use Rattle.amt_pair.proofs.{Alone.{filter_every, filter_none}, Histories.{IsGroupOf, IsHistoryOf, has-such}, InterfaceFilters.{interface-ascends, interface-unopened, unopened-before}, MadeGood.{changes-none, unsaid}, Tunnel.{IsChanged, IsFull}}
 
 -- ---- records by group
@@ -32,7 +32,7 @@ on-said : (f : Ip → List Record) (groups : List Ip) → IsAscending ip_order g
 on-said f groups ascends on unsaid group =
     let here : Ip → List Record = λ one. on_group group (f one) in
     on-flat_map group f groups
-    ∙ flat_map-same here groups (group ∷ []) ascends (IsAscending-ascending ip_order-total (group ∷ [])) (λ one none. ap (on_group group) (unsaid one none))
+    ∙ flat_map-same ip_order-total ip_order-exact here groups (group ∷ []) ascends (IsAscending-ascending ip_order-total (group ∷ [])) (λ one none. ap (on_group group) (unsaid one none))
     (λ one none. on-other group one (f one) ((eq_by_cmp_equiv ip_order-total).symm group one ∙ (or_parts (same_group one group) false none).0) (on one))
     ∙ append-nil (here group)
     ∙ on-own group (f group) (on group)
@@ -102,4 +102,4 @@ unfolding change_records
 changed-some family older newer first more some =
     let found = some-said (λ group. changes_on (interface older group) (interface newer group) group) (groups_of family newer) first more some in
     let group = found.0 in
-    (group, λ same. found.1 (ap (λ (filter : FilterValue). changes_on filter (interface newer group) group) same ∙ changes-itself (interface newer group).mode (interface newer group).sources group))
+    (group, λ same. found.1 (ap (λ (filter : FilterValue). changes_on filter (interface newer group) group) same ∙ changes_on-itself (interface newer group) group))

@@ -46,12 +46,15 @@ made-cleared endpoint named sent at group = cleared (same_endpoint endpoint name
     cleared true = All-cons IsLeaving (leaving group) [] (record { kind = refl; sources = refl }) (All-nil IsLeaving)
     cleared false = All-nil IsLeaving
 
+-- one that is has the report's records there
+pub reported-here : (endpoint : EndpointValue) (records : List Record) (at : ℕ) (group : Ip)
+    → records_at (in_group endpoint group) (Reported endpoint records at) ≡ reverse (on_group group records)
+reported-here endpoint records at group =
+    cond-true (same_endpoint endpoint endpoint) (reverse (on_group group records)) [] (ap is_eq (tied_itself endpoint_order-total endpoint))
+
 pub made-reported : (endpoint : EndpointValue) (sent : List SentReport) (report : SentReport) (at : ℕ) → Contains sent report
     → IsMadeBy endpoint sent (Reported endpoint report.records at) (Some report)
-made-reported endpoint sent report at among = (
-  among,
-  λ group. cond-true (same_endpoint endpoint endpoint) (reverse (on_group group report.records)) [] (ap is_eq (tied_itself endpoint_order-total endpoint)),
-)
+made-reported endpoint sent report at among = (among, reported-here endpoint report.records at)
 
 made_by-sent : (endpoint : EndpointValue) (sent more : List SentReport) (change : Change) (by : Option SentReport) → IsMadeBy endpoint sent change by
     → IsMadeBy endpoint (more ++ sent) change by

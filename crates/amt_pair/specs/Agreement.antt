@@ -6,7 +6,7 @@ use Rattle.endpoint_membership.specs.{Admission.{is_admitted}, Log.{on_group}, d
 use Rattle.gateway_machine.specs.{Answers.{same_peer}, Laws.{last_of}, declared.exchange.GatewayState.TheVariants.{Active}}
 use Rattle.relay_machine.specs.{Accepted.{accepted_log}, Events.{now_of}, Settings.{membership_interval_ms}}
 use Rattle.socket_merge.specs.Interface.{wants}
-use Rattle.amt_pair.specs.{Entries.{is_change_of}, Schedule.{Entry, Member, Upward, course_of, numbered, run_of_member}, Sent.{SentReport, report_of}, Setup.{PairSetup}, declared.event.PairEvent.{PairEvent, TheVariants.{Up}}}
+use Rattle.amt_pair.specs.{Entries.{is_change_of}, Schedule.{Course, Entry, Member, Upward, course_of, numbered, run_of_member}, Sent.{SentReport, report_of}, Setup.{PairSetup}, declared.event.PairEvent.{PairEvent, TheVariants.{Up}}}
 
 -- the report in a datagram of this peer
 abbrev pub report_from : Peer → Upward → Option SentReport
@@ -48,12 +48,15 @@ IsInTime setup schedule peer =
 abbrev pub CountsInTime : PairSetup → Type 0
 CountsInTime setup = membership_interval_ms setup.settings ≤ 99940000
 
--- after the schedule the relay forwards packets of the source in the group to the endpoint
+-- where a course leads the relay forwards packets of the source in the group to the endpoint
+abbrev pub course_admits : PairSetup → Course → EndpointValue → Ip → Ip → Bool
+course_admits setup course endpoint group source =
+    is_admitted (membership_interval_ms setup.settings) (accepted_log setup.settings setup.secret course.relay)
+    (record { endpoint = endpoint; group = group }) source (now_of course.relay)
+
+-- and so it does after the schedule
 abbrev pub relay_admits : PairSetup → List PairEvent → EndpointValue → Ip → Ip → Bool
-relay_admits setup schedule endpoint group source =
-    is_admitted (membership_interval_ms setup.settings)
-    (accepted_log setup.settings setup.secret (course_of setup schedule).relay)
-    (record { endpoint = endpoint; group = group }) source (now_of (course_of setup schedule).relay)
+relay_admits setup schedule endpoint group source = course_admits setup (course_of setup schedule) endpoint group source
 
 -- the report names the group
 abbrev pub Names : SentReport → Ip → Type 0

@@ -3,7 +3,7 @@ use Rattle.std.specs.{Prelude.{◌≡◌, ◌≤◌, ℕ, List, ◌++◌, drop, 
 use Rattle.amt_values.specs.declared.peer.Peer.{Peer}
 use Rattle.gateway_machine.specs.{Runs.{GatewayAt, settings_of}, Sends.{datagram_of}, declared.{event.GatewayEvent.TheVariants.{Moment as Passes}, step.PeerSend.{PeerSend}}}
 use Rattle.relay_machine.specs.declared.sends.OneSend.{OneSend}
-use Rattle.amt_pair.specs.{Parts.{gateway_parts}, Schedule.{Member, Upward, upwards_on, with_gateway_event}, Setup.{Host, first_nonce}, declared.{datagrams.UpDatagram.{UpDatagram}, gateways.NamedGateway.{NamedGateway}, step.Part.{Part}}}
+use Rattle.amt_pair.specs.{Parts.{gateway_parts}, Schedule.{Member, Upward, upwards_on, with_gateway_event}, Setup.{Host}, declared.{datagrams.UpDatagram.{UpDatagram}, gateways.NamedGateway.{NamedGateway}, step.Part.{Part}}}
 
 -- the name, the peer and the settings of a gateway
 abbrev pub host_of : NamedGateway → Host
@@ -13,7 +13,7 @@ host_of named = record { name = named.name; peer = named.peer; settings = settin
 pub record IsMemberAt (named : NamedGateway) (member : Member) : Type 0 where
   pub name : named.name ≡ member.host.name
   pub peer : named.peer ≡ member.host.peer
-  pub gateway : GatewayAt named.gateway member.host.settings first_nonce member.events
+  pub gateway : GatewayAt named.gateway member.host.settings member.first member.events
 
 -- the same of each, in order
 abbrev pub AreMembersAt : List NamedGateway → List Member → Type 0

@@ -8,14 +8,16 @@ use Rattle.relay_machine.specs.{Accepted.{entry_of}, Answers.{sends_of}, declare
 use Rattle.socket_merge.specs.History.{same_name}
 use Rattle.amt_pair.specs.{Events.{IsEvent}, Sent.{Sent, sent_on}, Setup.{Host, PairSetup, first_nonce, relay_peer}, declared.event.PairEvent.{PairEvent, TheVariants.{Down, Moment as MomentForAll, Packet as PacketComes, Rotate as SecretComes, Socket, Up}}}
 
--- a gateway, and the events that happened to it, in order
+-- a gateway, the nonce of its first message, and the events that happened to it, in order
 pub record Member : Type 0 where
   pub host : Host
+  pub first : ℕ
   pub events : List GatewayEvent
 
--- a datagram that a gateway sent to the relay
+-- a datagram that a gateway of this peer and this family sent to the relay
 pub record Upward : Type 0 where
   pub from : Peer
+  pub v6 : Bool
   pub sent : Sent
 
 -- an entry of the relay's accepted log, and the datagram that made it, where one did
@@ -34,20 +36,23 @@ pub record Course : Type 0 where
 
 -- the run of a gateway
 abbrev pub run_of_member : Member → Run
-run_of_member member = run_of member.host.settings first_nonce member.events
+run_of_member member = run_of member.host.settings member.first member.events
 
 -- what an event comes to at a gateway
 abbrev pub answer_at : Member → GatewayEvent → Answer
 answer_at member event = answer_in member.host.settings (run_of_member member) event
 
+-- what a gateway sent, as a datagram of its own
+abbrev pub upward_of : Host → Sent → Upward
+upward_of host sent = record { from = host.peer; v6 = host.settings.v6; sent = sent }
+
 -- the datagrams that a gateway sends on an event
 abbrev pub upwards_on : GatewayEvent → Member → List Upward
-upwards_on event member =
-    map (λ sent. record { from = member.host.peer; sent = sent }) (sent_on member.host.settings (run_of_member member) event)
+upwards_on event member = map (upward_of member.host) (sent_on member.host.settings (run_of_member member) event)
 
 -- the gateway with one more event
 abbrev pub with_gateway_event : GatewayEvent → Member → Member
-with_gateway_event event member = record { host = member.host; events = member.events ++ event ∷ [] }
+with_gateway_event event member = record { host = member.host; first = member.first; events = member.events ++ event ∷ [] }
 
 -- the course in which an event happens to these gateways, and not to the rest
 abbrev pub with_member_event : GatewayEvent → (Member → Bool) → Course → Course
@@ -122,7 +127,7 @@ with_pair_event setup course (Down number) = down_delivered setup (numbered cour
 abbrev pub start : PairSetup → Course
 start setup = record {
   relay = [];
-  members = map (λ host. record { host = host; events = [] }) setup.hosts;
+  members = map (λ host. record { host = host; first = first_nonce; events = [] }) setup.hosts;
   up = [];
   down = [];
   entries = [];

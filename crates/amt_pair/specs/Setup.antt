@@ -32,7 +32,7 @@ abbrev pub settings_of_host : Settings → Bool → Ip → GatewaySettings
 settings_of_host settings v6 source =
     record { v6 = v6; discovery = relay_peer settings; relay = None; port = amt_port; source = source }
 
--- the first nonce of each gateway
+-- the nonce of the first message of each gateway of a pair
 abbrev pub first_nonce : ℕ
 first_nonce = 1
 

@@ -1,14 +1,14 @@
 use Rattle.std.proofs.Common.{sym, subst}
 use Rattle.gateway_machine.specs.{Runs.{GatewayAt}, declared.gateway.Gateway.{Gateway}}
-use Rattle.amt_pair.{specs.Setup.{first_nonce}, proofs.MembersAt.{sent_by, short_more}}
+use Rattle.amt_pair.proofs.MembersAt.{sent_by, short_more}
 use Rattle.amt_pair.proofs.gateways.NamedGateway.take.Goals as goal
 
 pub returns-clause-sent : goal.returns-clause-sent
 returns-clause-sent c = λ member at.
-    let stands : GatewayAt c.in_ok-gateway.gateway member.host.settings first_nonce member.events =
-    subst (λ (gateway : Gateway). GatewayAt gateway member.host.settings first_nonce member.events) (sym c.in_ok-gateway.ensures) at.gateway in
+    let stands : GatewayAt c.in_ok-gateway.gateway member.host.settings member.first member.events =
+    subst (λ (gateway : Gateway). GatewayAt gateway member.host.settings member.first member.events) (sym c.in_ok-gateway.ensures) at.gateway in
     sent_by c.args.self.now member c.args.event.now c.in_ok-step.step.sends c.as_slice-2.result.now c.args.up.now c.in_ok-sent.sent.items c.append.new.self
-    at (c.in_ok-step.ensures.sends member.host.settings first_nonce member.events stands) c.as_slice-2.ensures c.in_ok-sent.ensures c.in_ok-append.ensures.ok
+    at (c.in_ok-step.ensures.sends member.host.settings member.first member.events stands) c.as_slice-2.ensures c.in_ok-sent.ensures c.in_ok-append.ensures.ok
 
 pub returns-clause-short : goal.returns-clause-short
 returns-clause-short c =

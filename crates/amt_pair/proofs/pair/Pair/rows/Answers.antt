@@ -1,5 +1,5 @@
 use Rattle.std.proofs.lemmas.Result.{IfOk-weaker}
-use Rattle.amt_pair.proofs.BothEnds.{rows-agree}
+use Rattle.amt_pair.proofs.PairAgrees.{rows-agree}
 use Rattle.amt_pair.proofs.pair.Pair.rows.Goals as goal
 
 pub returns-clause-agree : goal.returns-clause-agree
