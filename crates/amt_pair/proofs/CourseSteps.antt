@@ -1,5 +1,5 @@
 -- Each event leaves what a course shows of a gateway in order.
-use Rattle.std.proofs.{Common.{◌≡◌, ℕ, ◌+◌, ◌≤◌, max, Bool, true, List, All, Contains, Option, Some, None, is_some, refl, sym, ap, subst, ◌∙◌, arith, inl, inr}, lemmas.List.{Elements.{All-contains, All-nil}, Sorted.{Contains-permutation, IsPermutation-reverse}}}
+use Rattle.std.proofs.{Common.{◌≡◌, ℕ, ◌+◌, ◌≤◌, max, Bool, true, List, All, Contains, Option, Some, None, is_some, refl, sym, ap, subst, ◌∙◌, arith, inl, inr}, lemmas.List.{Elements.{All-contains}, Sorted.{Contains-permutation, IsPermutation-reverse}}}
 use Rattle.amt_values.specs.{Endpoint.{endpoint_of}, EndpointValue.{EndpointValue}}
 use Rattle.endpoint_membership.specs.{Log.{brought, latest}, declared.change.Change.{Change, TheVariants.{Mark}}}
 use Rattle.gateway_machine.specs.{Answers.{call_in}, declared.{event.GatewayEvent.{GatewayEvent, TheVariants.{Moment as Passes, Datagram as Heard}}, settings.GatewaySettings.{GatewaySettings}}}
@@ -78,7 +78,7 @@ module _ (sight : Sight) (setup : PairSetup) (lawful : AreLawfulSettings setup.s
       where
         marked : (now : ℕ) → IsMadeBy endpoint (reports_from sight course.up) (sight.seen (Mark now)) None
         marked now =
-            let is : sight.seen (Mark now) ≡ Mark now = elim (sight.stays (Mark now)) [ | inl same ↦ same | inr mark ↦ mark ] in
+            let is : sight.seen (Mark now) ≡ Mark now = elim (sight.stays (Mark now)) [ inl same ↦ same | inr mark ↦ mark ] in
             subst (λ (one : Change). IsMadeBy endpoint (reports_from sight course.up) one None) (sym is) (made-other endpoint (reports_from sight course.up) (Mark now) refl)
 
     -- a delivery to gateways

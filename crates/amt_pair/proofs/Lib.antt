@@ -24,6 +24,7 @@ pub mod QueryTimes
 mod ReadFamilies
 pub mod ReadQueries
 pub mod ReadReports
+pub mod RefusedSends
 pub mod RelayEntries
 pub mod RelaySteps
 pub mod ReportedAddresses

@@ -3,7 +3,7 @@ use Rattle.std.proofs.{Common.{◌≡◌, ℕ, zero, suc, ◌-◌, ◌⊎◌, na
 use Rattle.std.specs.List.{cons_option, filter, filter_map}
 use mathlib.Core.List.{reverse-cons}
 use Rattle.gateway_machine.specs.Laws.{last_of}
-use Rattle.amt_pair.{specs.{Schedule.{Member, numbered}, Setup.{Host}}, proofs.MembersAt.{host_at}}
+use Rattle.amt_pair.{specs.{Schedule.{Member, numbered}}, proofs.MembersAt.{host_at}}
 
 module _ {X : Type 0} where
   -- ---- where an item stands

@@ -2,7 +2,7 @@
 use Rattle.std.proofs.Common.{◌≡◌, false, List, All, refl, ap, ◌∙◌}
 use Rattle.amt_values.specs.{EndpointValue.{EndpointValue}, declared.address.Ip.{Ip}}
 use Rattle.endpoint_membership.specs.{Admission.{rows_admit}, declared.row.Row.{Row}}
-use Rattle.relay_machine.specs.{Accepted.{accepted_log}, Answers.{After, rows_after}, Events.{now_of}}
+use Rattle.relay_machine.specs.{Answers.{After, rows_after}, Events.{now_of}}
 use Rattle.amt_pair.specs.{Agreement.{CountsInTime, IsActive, IsHeard, IsInTime, Names, relay_admits, wanted_then, wants_now}, Schedule.{IsPairEvent, Member, course_of}, Sent.{SentReport}, Setup.{IsLawfulSetup, PairSetup, first_nonce}, State.{PairAt}, declared.{event.PairEvent.{PairEvent}, pair.Pair.{Pair}}}
 use Rattle.amt_pair.proofs.{BothEnds.{all-agree, named-agree, now-agree, rows-course, unnamed-unwanted}, Courses.{logged-after}, Follows.{Stands}, HeardQueries.{same_peer-itself}, PairSteps.{listed, stands-after}, Sights.{Sight, alone_at}, ToldReports.{IsHeardIn}}
 

@@ -1,12 +1,12 @@
 -- What a schedule of a pair shows of a gateway, which is alone at its peer, is in order.
-use Rattle.std.proofs.{Common.{◌≡◌, ℕ, ◌+◌, ◌≤◌, true, List, [], ◌∷◌, ◌++◌, filter, map, All, Contains, Option, Some, None, refl, sym, ap, subst, ◌∙◌, append_assoc, append-nil, arith}, lemmas.List.{get_or-map, length-map, Elements.{All-contains, All-head, All-nil, All-tail, Contains-get_or}}}
+use Rattle.std.proofs.{Common.{◌≡◌, ℕ, ◌+◌, ◌≤◌, List, [], ◌∷◌, ◌++◌, filter, map, All, Contains, Option, Some, None, refl, sym, ap, subst, ◌∙◌, append_assoc, append-nil, arith}, lemmas.List.{get_or-map, length-map, Elements.{All-contains, All-head, All-nil, All-tail, Contains-get_or}}}
 use Rattle.amt_values.specs.{Endpoint.{endpoint_of}, EndpointValue.{EndpointValue}}
 use Rattle.socket_merge.proofs.Amounts.{same_name-exact}
 use Rattle.relay_machine.specs.{Accepted.{accepted_log}, Events.{now_of}, Settings.{membership_interval_ms}, declared.sends.OneSend.{OneSend}}
 use Rattle.amt_pair.specs.{Agreement.{IsInTime}, Events.{MayHappen}, Setup.{AreApart, Host, IsHost, IsLawfulSetup, PairSetup, first_nonce}}
 use Rattle.amt_pair.specs.{Schedule.{Course, IsPairEvent, Member, Upward, course_of, down_delivered, has_name, is_at, numbered, start, with_pair_event}, declared.event.PairEvent.{PairEvent, TheVariants.{Down, Moment as MomentForAll, Packet as PacketComes, Rotate as SecretComes, Socket, Up}}}
 use Rattle.amt_pair.proofs.{Alone.{alone}, CourseSteps.{stands-call, stands-down, stands-moment, stands-packet, stands-secret, stands-up}, Courses.{changes_of, course_hosts, course_of-more, course_of-none, logged-after, now_of-nil, start_hosts}, Follows.{Stands, member_of}, GatewaySteps.{run-start}, HeardQueries.{same_peer-is, same_peer-itself}}
-use Rattle.amt_pair.proofs.{HostsApart.{one-name, once_by_peer}, Listed.{contains-host, numbered-among}, MembersAt.{host_at}, PeerReports.{is_own_member}, RelayEntries.{alone-sight}, RelaySteps.{none-down}, Sights.{Sight, alone_at}, Upwards.{IsHosted, IsUpward}}
+use Rattle.amt_pair.proofs.{HostsApart.{one-name, once_by_peer}, Listed.{contains-host, numbered-among}, PeerReports.{is_own_member}, RelayEntries.{alone-sight}, RelaySteps.{none-down}, Sights.{Sight, alone_at}, Upwards.{IsHosted, IsUpward}}
 
 -- each gateway of a course is one of the setup
 pub listed : (setup : PairSetup) (schedule : List PairEvent) (member : Member) → Contains (course_of setup schedule).members member → Contains setup.hosts member.host

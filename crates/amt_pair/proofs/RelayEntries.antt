@@ -115,8 +115,11 @@ module _ (sight : Sight) (peer : Peer) (endpoint : EndpointValue) (sees : IsSigh
         let is : change ≡ Reported endpoint updated.records now =
         is-at endpoint source_is ∙ ap (λ (records : List Record). Reported endpoint records now) (filter_every (λ one. is_forwardable one.group) updated.records facts.1) in
         record {
-          made = subst (IsMadeBy endpoint sent (sight.seen change)) (sym found) (facts.0, λ group.
-              ap (λ (one : Change). records_at (in_group endpoint group) (sight.seen one)) is ∙ sees.said upward report now is_upward found group);
+          made = subst (IsMadeBy endpoint sent (sight.seen change)) (sym found) (
+            facts.0,
+            λ group.
+                ap (λ (one : Change). records_at (in_group endpoint group) (sight.seen one)) is ∙ sees.said upward report now is_upward found group,
+          );
           early = seen-early early;
           prompt = λ in_time. subst (λ by. IsPrompt by now) (sym found) (in_time from);
         }

@@ -1,12 +1,11 @@
 -- A course as it is seen of one gateway: which datagrams are its own, and what it sees of the accepted log. Gateways of a
 -- pair differ in their peers, and each sees the whole log; two machines of one peer see what is of their family.
-use Rattle.std.proofs.{Common.{◌≡◌, ℕ, max, Bool, true, false, not, cond, if◌then◌else◌, ltb, ◌+◌, List, [], ◌∷◌, ◌++◌, map, Option, Some, None, ◌⊎◌, inl, inr, refl, sym, ap, ap₂, subst, ◌∙◌}}
+use Rattle.std.proofs.{Common.{◌≡◌, ℕ, max, Bool, not, if◌then◌else◌, ltb, ◌+◌, List, [], ◌∷◌, ◌++◌, map, Option, None, ◌⊎◌, inl, inr, refl, ap, ap₂, ◌∙◌}}
 use Rattle.amt_values.specs.{EndpointValue.{EndpointValue}, declared.peer.Peer.{Peer}}
 use Rattle.source_filter.specs.declared.record.Record.{Record}
-use Rattle.endpoint_membership.specs.{EndpointGroup.{EndpointGroup}, Log.{brought, concerns, is_empty, latest, live_chain, on_group, records_at}, declared.change.Change.{Change, TheVariants.{Mark, Reported}}}
+use Rattle.endpoint_membership.specs.{EndpointGroup.{EndpointGroup}, Log.{brought, concerns, is_empty, latest, live_chain, records_at}, declared.change.Change.{Change, TheVariants.{Mark}}}
 use Rattle.gateway_machine.specs.Answers.{same_peer}
-use Rattle.relay_machine.specs.Updates.{forwardable_records}
-use Rattle.amt_pair.specs.{Entries.{is_change_of}, Schedule.{Entry, Member, Upward, upward_of}, Sent.{Sent, SentReport, report_of}, Setup.{Host}}
+use Rattle.amt_pair.specs.{Entries.{is_change_of}, Schedule.{Entry, Upward, upward_of}, Sent.{Sent, SentReport, report_of}, Setup.{Host}}
 
 -- which hosts and which datagrams are the gateway's, and how it sees an entry of the log: as it is, or as a mark of its moment
 pub record Sight : Type 0 where
@@ -64,5 +63,5 @@ module _ (sight : Sight) where
       ap₂ counted (shows entry) at
       ∙ (λ i. if concerns endpoint_group entry
       then (if ltb moment (latest (entry ∷ older) + lifetime)
-        then records_at endpoint_group entry ++ chain-seen endpoint_group shows lifetime (latest (entry ∷ older)) older i else [])
+      then records_at endpoint_group entry ++ chain-seen endpoint_group shows lifetime (latest (entry ∷ older)) older i else [])
       else chain-seen endpoint_group shows lifetime moment older i)

@@ -2,8 +2,8 @@
 
 ghost use Rattle.std.specs.{Prelude.{◌≡◌, ◌<◌, ◌≤◌, ◌+◌, ◌^◌, ◌||◌, ℕ, HoldsAt, IsTrue, vec_len, vec_capacity, ◌++◌, ◌∷◌, [], false, true, get_or, length, map, set, All, List, IfOk, OnOk, OnErr, IfSome, IfNone}, List.{list_any}};
 ghost use Rattle.amt_values.specs.Endpoint.{endpoint_of};
-ghost use Rattle.gateway_machine.specs.{Answers.{same_peer}, Events.{IsEventOf}, Runs.{settings_of}};
-ghost use Rattle.amt_pair.specs.{Parts.{gateway_part}, Schedule.{Member, is_endpoint, upwards_on, with_gateway_event}, Members.{AreMembersAt, AreShort, HasCome, HasComeTo, IsMemberAt, host_of, kept_upward}};
+ghost use Rattle.gateway_machine.specs.{Answers.{same_peer}, Events.{IsEventOf}, Outcomes.{IsRefused}, Runs.{settings_of}};
+ghost use Rattle.amt_pair.specs.{Parts.{gateway_part}, Schedule.{Member, answer_at, is_endpoint, upwards_on, with_gateway_event}, Members.{AreMembersAt, AreShort, HasCome, HasComeTo, IsMemberAt, host_of, kept_upward}};
 ghost use Rattle.socket_merge.specs.History.{same_name};
 
 use crate::datagrams::{UpDatagrams, datagrams_from};
@@ -42,6 +42,11 @@ impl NamedGateway {
         ensures same { OnErr result (self.new ≡ self.old) }
         ensures same_up { OnErr result (up.new ≡ up.old) }
         ensures short { AreShort up.new }
+
+        // A datagram that is ignored changes nothing.
+        ensures ignored { (member : Member) → IsMemberAt self.old member
+            → IsRefused (answer_at member event.now).outcome
+            → IfOk result (λ _. (self.new ≡ self.old) × (up.new ≡ up.old)) }
     {
         let name = Bytes::copied(alloc, self.name.as_slice())?;
         let mut gateway = self.gateway.copied(alloc)?;
@@ -163,6 +168,10 @@ impl Gateways {
         ensures same { OnErr result (self.new ≡ self.old) }
         ensures same_up { OnErr result (up.new ≡ up.old) }
         ensures short { AreShort up.new }
+        ensures ignored { (members : List Member) (member : Member) → AreMembersAt self.old members
+            → get_or members place member ≡ member
+            → IsRefused (answer_at member event.now).outcome
+            → IfOk result (λ _. (self.new ≡ self.old) × (up.new ≡ up.old)) }
     {
         self.gateways[place].take(alloc, event, up)
     }

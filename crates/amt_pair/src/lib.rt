@@ -22,8 +22,12 @@ mod step;
 pub use agreement::{
     all_groups_agree, both_ends_agree, entries_are_the_accepted_log, named_groups_agree,
 };
+pub use datagrams::{DownDatagrams, UpDatagram, UpDatagrams, keep_copies};
 pub use event::PairEvent;
+pub use gateways::{Gateways, NamedGateway};
 pub use laws::{relays_queries_are_accepted, steps_extend_schedules};
+pub use numbered::Numbered;
 pub use pair::{Pair, PairFault};
+pub use ranges::{gateway_event_fits, peer_fits, settings_fit};
 pub use silence::{farewells_are_kept, silent_entries_admit_nothing};
 pub use step::{PairStep, Part, Parts};

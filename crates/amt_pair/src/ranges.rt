@@ -46,8 +46,8 @@ fn filter_fits(filter: &Filter)
     addresses_fit(filter.sources());
 }
 
-// The same of a gateway's event: a filter's sources are addresses, and ascend.
-fn gateway_event_fits(event: &GatewayEvent)
+/// The same of a gateway's event: a filter's sources are addresses, and ascend.
+pub fn gateway_event_fits(event: &GatewayEvent)
     ensures { IsEvent event.now }
 {
     match event {

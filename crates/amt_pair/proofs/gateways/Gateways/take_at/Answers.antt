@@ -1,4 +1,4 @@
-use Rattle.std.proofs.{Common.{◌≡◌, List, map, get_or, sym, ap, ◌∙◌, subst}, Math.Seq.{map-set_same}, lemmas.Result.{IfOk-weaker}}
+use Rattle.std.proofs.{Common.{◌≡◌, List, map, get_or, set, sym, ap, ◌∙◌, subst}, Math.Seq.{map-set_same}, lemmas.{List.{set-get_or}, Result.{IfOk-weaker}}}
 use Rattle.gateway_machine.specs.{Events.{IsEventOf}, Runs.{settings_of}}
 use Rattle.amt_pair.{specs.{Members.{AreMembersAt, IsMemberAt, host_of}, Schedule.{with_gateway_event}, declared.gateways.NamedGateway.{NamedGateway}}, proofs.MembersAt.{member_at_place, members_set}}
 use Rattle.amt_pair.proofs.gateways.Gateways.take_at.Goals as goal
@@ -34,3 +34,16 @@ returns-clause-hosts c =
     map-set_same host_of c.self.inside.gateways.items c.args.place c.take.new.self c.index_mut.result.now
     (c.take.ensures.host ∙ ap host_of c.index_mut.ensures.value)
     ∙ ap (map host_of) c.self.view_is
+
+pub returns-clause-ignored : goal.returns-clause-ignored
+returns-clause-ignored c = λ members member at there refused.
+    let items = c.self.inside.gateways.items in
+    let named = c.index_mut.result.now in
+    IfOk-weaker c.take.result (λ part. (c.take.new.self ≡ named) × (c.take.new.up ≡ c.args.up.now)) _
+    (λ part same. (
+      ap (set items c.args.place) (same.0 ∙ c.index_mut.ensures.value) ∙ set-get_or items c.args.place named ∙ c.self.view_is,
+      same.1,
+    ))
+    (c.take.ensures.ignored member
+    (member_at_place items c.args.self.now members c.args.place named member c.self.view_is at c.requires.place c.index_mut.ensures.value there)
+    refused)
