@@ -119,6 +119,15 @@ impl Gateways {
         Ok(())
     }
 
+    /// Puts more gateways at the end. Out of memory nothing changes.
+    pub fn append(&mut self, more: Vec<NamedGateway>) -> Result<(), AllocError>
+        ensures ok { OnOk result (self.new ≡ self.old ++ more.items) }
+        ensures err { OnErr result (self.new ≡ self.old) }
+    {
+        let mut more = more;
+        self.gateways.append(&mut more)
+    }
+
     /// The place of the first gateway of this name.
     pub fn place_of_name(&self, name: &[u8]) -> Option<usize>
         ensures within { IfSome result (λ place. place < length self.now) }
