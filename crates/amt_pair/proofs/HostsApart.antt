@@ -37,7 +37,7 @@ peers_at endpoint one other own other_own is other_is =
     sym (own endpoint (found_by endpoint (endpoint_of one) is)) ∙ other_own endpoint (found_by endpoint (endpoint_of other) other_is)
 
 -- what no two items' images are, no two items are
-apart_back : {X Y : Type 0} (f : X → Y) (R : Y → Y → Type 0) (xs : List X) → AllPairs R (map f xs) → AllPairs (λ one other. R (f one) (f other)) xs
+pub apart_back : {X Y : Type 0} (f : X → Y) (R : Y → Y → Type 0) (xs : List X) → AllPairs R (map f xs) → AllPairs (λ one other. R (f one) (f other)) xs
 apart_back f R xs apart i j d low high = subst₂ R (get_or-map f xs i d (f d) (omega arith)) (get_or-map f xs j d (f d) high) (apart i j (f d) low (omega (arith, length-map xs f)))
 
 module _ (members : List Member) (apart : AreApart (map host_at members)) where

@@ -1,6 +1,6 @@
 //! The gateways of a pair.
 
-ghost use Rattle.std.specs.{Prelude.{◌≡◌, ◌<◌, ◌≤◌, ◌+◌, ◌^◌, ◌||◌, ℕ, HoldsAt, IsTrue, vec_len, vec_capacity, ◌++◌, ◌∷◌, [], false, true, get_or, length, map, set, All, List, IfOk, OnOk, OnErr, IfSome, IfNone}, List.{list_any}};
+ghost use Rattle.std.specs.{Prelude.{◌≡◌, ◌<◌, ◌≤◌, ◌+◌, ◌^◌, ◌||◌, ℕ, HoldsAt, IsTrue, vec_len, vec_capacity, ◌++◌, ◌∷◌, [], false, true, get_or, length, map, set, All, List, IfOk, OnOk, OnErr, IfSome, IfNone}, List.{AllWithin, list_any}};
 ghost use Rattle.amt_values.specs.Endpoint.{endpoint_of};
 ghost use Rattle.gateway_machine.specs.{Answers.{same_peer}, Events.{IsEventOf}, Outcomes.{IsRefused}, Runs.{settings_of}};
 ghost use Rattle.amt_pair.specs.{Parts.{gateway_part}, Schedule.{Member, answer_at, is_endpoint, upwards_on, with_gateway_event}, Members.{AreMembersAt, AreShort, HasCome, HasComeTo, IsMemberAt, host_of, kept_upward}};
@@ -132,6 +132,7 @@ impl Gateways {
     pub fn place_of_name(&self, name: &[u8]) -> Option<usize>
         ensures within { IfSome result (λ place. place < length self.now) }
         ensures found { IfSome result (HoldsAt (λ one. same_name name.now one.name ≡ true) self.now) }
+        ensures first { IfSome result (AllWithin (λ one. same_name name.now one.name ≡ false) self.now 0) }
         ensures none { IfNone result (All (λ one. same_name name.now one.name ≡ false) self.now) }
     {
         self.gateways.iter().position(|one| one.has_name(name))
@@ -141,6 +142,7 @@ impl Gateways {
     pub fn place_of_endpoint(&self, endpoint: &Endpoint) -> Option<usize>
         ensures within { IfSome result (λ place. place < length self.now) }
         ensures found { IfSome result (HoldsAt (λ one. is_endpoint endpoint.now (endpoint_of one.peer) ≡ true) self.now) }
+        ensures first { IfSome result (AllWithin (λ one. is_endpoint endpoint.now (endpoint_of one.peer) ≡ false) self.now 0) }
         ensures none { IfNone result (All (λ one. is_endpoint endpoint.now (endpoint_of one.peer) ≡ false) self.now) }
     {
         self.gateways.iter().position(|one| one.is_at(endpoint))
@@ -203,6 +205,7 @@ impl Gateways {
             × HasComeTo at.now count members self.new up.old up.new parts.old.items parts.new.items }
         ensures hosts { map host_of self.new ≡ map host_of self.old }
         ensures short { AreShort up.new }
+        ensures few { vec_len parts.new ≤ vec_len parts.old + length self.old }
     {
         take_each(&mut self.gateways, alloc, at, up, parts)
     }
@@ -225,6 +228,7 @@ fn take_each(
         × HasComeTo at.now count members gateways.new up.old up.new parts.old.items parts.new.items }
     ensures hosts { map host_of gateways.new ≡ map host_of gateways.old }
     ensures short { AreShort up.new }
+    ensures few { vec_len parts.new ≤ vec_len parts.old + length gateways.old }
 {
     let event = GatewayEvent::Moment(*at);
     for gateway in gateways.iter_mut() {

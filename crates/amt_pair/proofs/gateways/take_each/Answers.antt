@@ -10,6 +10,7 @@ loop-gateway-init c = record {
   hosts = refl;
   short = c.requires.short;
   room = omega (arith, c.requires.room);
+  few = omega arith;
 }
 
 pub take-requires-clause-event : goal.take-requires-clause-event
@@ -44,6 +45,7 @@ loop-gateway-preserved c =
       hosts = map-set_same host_of gateways place next named (c.take.ensures.host ∙ ap host_of here) ∙ c.loop-gateway.invariant.hosts;
       short = c.take.ensures.short;
       room = omega (arith, c.loop-gateway.invariant.room, c.push_reserved.ensures.len, c.push_reserved.ensures.capacity, length-set gateways place next);
+      few = omega (arith, c.loop-gateway.invariant.few, c.push_reserved.ensures.len);
     }
 
 pub returns-in_default-clause-some : goal.returns-in_default-clause-some
