@@ -1,0 +1,9 @@
+pub mod Agreement
+pub mod Answers
+pub mod Family
+pub mod InTurn
+pub mod Parts
+pub mod Schedule
+pub mod Setup
+pub mod State
+pub mod Twins

@@ -1,0 +1,190 @@
+//! A gateway of both families: two machines on one socket. It knows no message.
+
+ghost use Rattle.std.specs.Prelude.{◌≡◌};
+ghost use Rattle.amt_dual.specs.Answers.{is_ignored};
+
+use crate::event::DualEvent;
+use crate::step::DualStep;
+use amt_values::{Bytes, Ip, Moment, Peer};
+use gateway_machine::{Gateway, GatewayEvent, GatewayOutcome, GatewaySettings, GatewayStep};
+use std::alloc::{AllocError, Global};
+
+// How far the first nonce of the IPv6 machine is from that of the IPv4 one.
+const NONCES_APART: u32 = 0x8000_0000;
+
+/// A gateway of both families: a machine for IPv4 groups and one for IPv6 groups, which send and hear by one
+/// socket (RFC 7450, section 4.1.2).
+///
+/// ```text
+///                  +-- IPv4 machine --> Update with IGMPv3
+///   one socket <---+
+///                  +-- IPv6 machine --> Update with MLDv2
+///
+///   moment         IPv4, then IPv6
+///   socket call    the machine that is named
+///   datagram       IPv4, and where it is ignored there, IPv6
+/// ```
+#[derive(Debug, Drop)]
+pub struct Dual {
+    v4: Gateway,
+    v6: Gateway,
+}
+
+impl Dual {
+    ghost use Rattle.std.specs.Prelude.{◌≡◌, ◌≤◌, ◌||◌, length, Bool, true, false, is_some, IfOk, OnErr};
+    ghost use Rattle.gateway_machine.specs.{Answers.{call_in}, Events.{IsEventOf}};
+    ghost use Rattle.socket_merge.specs.Interface.{wants};
+    ghost use Rattle.amt_dual.specs.Answers.{AreLawfulMachines, AreSteps, DualAfter, DualAt, HasStarvedBetween, MayComeTo, dual_start, machine_run, settings_at, with_dual_event};
+    ghost use Rattle.amt_dual.specs.declared.event.DualEvent.TheVariants as events;
+
+    /// A dual gateway at moment 0: both machines are idle, without sockets. The first message of the IPv4
+    /// machine has this nonce, and that of the IPv6 machine the nonce that is 2^31 more, which wraps.
+    pub fn new(
+        alloc: Global,
+        v4: GatewaySettings,
+        v6: GatewaySettings,
+        nonce: u32,
+    ) -> Result<Dual, AllocError>
+        requires { AreLawfulMachines (record { v4 = v4; v6 = v6; nonce = nonce }) }
+        ensures stands { IfOk result (λ dual. DualAt dual (record { v4 = v4; v6 = v6; nonce = nonce }) dual_start) }
+    {
+        Ok(Dual {
+            v4: Gateway::new(alloc, v4, nonce)?,
+            v6: Gateway::new(alloc, v6, nonce.wrapping_add(NONCES_APART))?,
+        })
+    }
+
+    /// Whether some socket of the group wants the source, at either machine. It takes no memory.
+    pub fn admits(&self, group: &Ip, source: &Ip) -> bool
+        ensures { DualAfter self.now (λ settings course. result ≡
+            (wants (machine_run settings course false).history group.now source.now
+            || wants (machine_run settings course true).history group.now source.now)) }
+    {
+        self.v4.admits(group, source) || self.v6.admits(group, source)
+    }
+
+    /// Takes one event. Where memory runs out at the first step of it, or at a datagram's second one, nothing
+    /// changes, and the event may be given again. Where it runs out at a moment's second step, the answer says
+    /// so: the IPv6 machine has not heard of the moment.
+    pub fn step(&mut self, alloc: Global, event: &DualEvent) -> Result<DualStep, AllocError>
+        requires { MayComeTo self.old event.now }
+        ensures steps { DualAfter self.old (λ settings course. IfOk result (λ step. step.starved ≡ false
+            → AreSteps settings course event.now step)) }
+        ensures next { DualAfter self.old (λ settings course. IfOk result (λ step. step.starved ≡ false
+            → DualAt self.new settings (with_dual_event settings course event.now))) }
+        ensures starved { DualAfter self.old (λ settings course. IfOk result (λ step. step.starved ≡ true
+            → HasStarvedBetween settings course event.now self.new step)) }
+        ensures settings { (family : Bool) → settings_at self.new family ≡ settings_at self.old family }
+        ensures err { OnErr result (self.new ≡ self.old) }
+    {
+        match event {
+            DualEvent::Moment(at) => self.take_moment(alloc, at),
+            DualEvent::Datagram { from, bytes } => self.take_datagram(alloc, from, bytes.as_slice()),
+            DualEvent::Socket { v6, event } => self.take_call(alloc, *v6, event),
+        }
+    }
+
+    // A moment comes to the IPv4 machine, and then to the IPv6 one.
+    fn take_moment(&mut self, alloc: Global, at: &Moment) -> Result<DualStep, AllocError>
+        ensures steps { DualAfter self.old (λ settings course. IfOk result (λ step. step.starved ≡ false
+            → AreSteps settings course (events.Moment at.now) step)) }
+        ensures next { DualAfter self.old (λ settings course. IfOk result (λ step. step.starved ≡ false
+            → DualAt self.new settings (with_dual_event settings course (events.Moment at.now)))) }
+        ensures starved { DualAfter self.old (λ settings course. IfOk result (λ step. step.starved ≡ true
+            → HasStarvedBetween settings course (events.Moment at.now) self.new step)) }
+        ensures settings { (family : Bool) → settings_at self.new family ≡ settings_at self.old family }
+        ensures err { OnErr result (self.new ≡ self.old) }
+    {
+        let event = GatewayEvent::Moment(*at);
+        let v4 = Some(self.v4.step(alloc, &event)?);
+        match self.v6.step(alloc, &event) {
+            Ok(step) => Ok(DualStep {
+                v4,
+                v6: Some(step),
+                starved: false,
+            }),
+            Err(_) => Ok(DualStep {
+                v4,
+                v6: None,
+                starved: true,
+            }),
+        }
+    }
+
+    // A datagram comes to the IPv4 machine, and where it is ignored there to the IPv6 one.
+    fn take_datagram(
+        &mut self,
+        alloc: Global,
+        from: &Peer,
+        bytes: &[u8],
+    ) -> Result<DualStep, AllocError>
+        requires { length bytes.now ≤ 65535 }
+        ensures steps { DualAfter self.old (λ settings course. IfOk result (λ step.
+            AreSteps settings course (events.Datagram from.now bytes.now) step)) }
+        ensures next { DualAfter self.old (λ settings course. IfOk result (λ _.
+            DualAt self.new settings (with_dual_event settings course (events.Datagram from.now bytes.now)))) }
+        ensures all { IfOk result (λ step. step.starved ≡ false) }
+        ensures settings { (family : Bool) → settings_at self.new family ≡ settings_at self.old family }
+        ensures err { OnErr result (self.new ≡ self.old) }
+    {
+        let event = GatewayEvent::Datagram {
+            from: *from,
+            bytes: Bytes::copied(alloc, bytes)?,
+        };
+        let v4 = self.v4.step(alloc, &event)?;
+        let v6 = if was_ignored(&v4) {
+            Some(self.v6.step(alloc, &event)?)
+        } else {
+            None
+        };
+        Ok(DualStep {
+            v4: Some(v4),
+            v6,
+            starved: false,
+        })
+    }
+
+    // The machine of this family takes a socket call.
+    fn take_call(
+        &mut self,
+        alloc: Global,
+        v6: bool,
+        event: &GatewayEvent,
+    ) -> Result<DualStep, AllocError>
+        requires call { is_some (call_in event.now) ≡ true }
+        requires event { IsEventOf (settings_at self.old v6) event.now }
+        ensures steps { DualAfter self.old (λ settings course. IfOk result (λ step.
+            AreSteps settings course (events.Socket v6 event.now) step)) }
+        ensures next { DualAfter self.old (λ settings course. IfOk result (λ _.
+            DualAt self.new settings (with_dual_event settings course (events.Socket v6 event.now)))) }
+        ensures all { IfOk result (λ step. step.starved ≡ false) }
+        ensures settings { (family : Bool) → settings_at self.new family ≡ settings_at self.old family }
+        ensures err { OnErr result (self.new ≡ self.old) }
+    {
+        if v6 {
+            let step = self.v6.step(alloc, event)?;
+            Ok(DualStep {
+                v4: None,
+                v6: Some(step),
+                starved: false,
+            })
+        } else {
+            let step = self.v4.step(alloc, event)?;
+            Ok(DualStep {
+                v4: Some(step),
+                v6: None,
+                starved: false,
+            })
+        }
+    }
+}
+
+// Whether a datagram was ignored.
+fn was_ignored(step: &GatewayStep) -> bool
+    ensures { result ≡ is_ignored step.now.outcome }
+{
+    match step.outcome {
+        GatewayOutcome::Ignored(_) => true,
+        _ => false,
+    }
+}
