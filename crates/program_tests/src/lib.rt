@@ -8,6 +8,8 @@
 #[cfg(test)]
 mod dns;
 #[cfg(test)]
+mod dual;
+#[cfg(test)]
 mod embedding;
 #[cfg(test)]
 mod gateway;
