@@ -79,7 +79,11 @@ impl Dual {
     {
         match event {
             DualEvent::Moment(at) => self.take_moment(alloc, at),
-            DualEvent::Datagram { from, bytes } => self.take_datagram(alloc, from, bytes.as_slice()),
+            DualEvent::Datagram { from, bytes } => self.take_datagram(
+                alloc,
+                from,
+                bytes.as_slice(),
+            ),
             DualEvent::Socket { v6, event } => self.take_call(alloc, *v6, event),
         }
     }
