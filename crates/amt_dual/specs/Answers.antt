@@ -2,7 +2,7 @@
 -- IGMPv3 and MLDv2 from one socket (RFC 7450, section 4.1.2).
 use Rattle.std.specs.Prelude.{◌≡◌, ◌≤◌, ℕ, ◌+◌, ◌%◌, ◌^◌, not, Bool, true, false, List, [], ◌∷◌, ◌++◌, length, Option, Some, None, is_some, if◌then◌else◌}
 use Rattle.amt_pair.specs.Parts.{gateway_step}
-use Rattle.gateway_machine.specs.{Answers.{Answer, call_in}, Events.{IsEventOf}, Runs.{GatewayAt, Run, answer_in, run_of, settings_of}, Settings.{HasSourceOfFamily}}
+use Rattle.gateway_machine.specs.{Answers.{Answer, call_in}, Events.{IsEventOf}, Outcomes.{IsRefused}, Runs.{GatewayAt, Run, answer_in, run_of, settings_of}, Settings.{HasSourceOfFamily}}
 use Rattle.gateway_machine.specs.declared.{event.GatewayEvent.{GatewayEvent, TheVariants.{Datagram as Heard, Moment as Passes}}, outcome.GatewayOutcome.{GatewayOutcome, TheVariants.{Ignored}}, settings.GatewaySettings.{GatewaySettings}, step.GatewayStep.{GatewayStep}}
 use Rattle.amt_dual.specs.declared.{dual.Dual.{Dual}, event.DualEvent.{DualEvent, TheVariants.{Datagram, Moment, Socket}}, step.DualStep.{DualStep}}
 
@@ -114,6 +114,16 @@ MayComeTo dual event = Unit {0}
 pub record AreSteps (settings : DualSettings) (course : DualCourse) (event : DualEvent) (step : DualStep) : Type 0 where
   pub v4 : step.v4 ≡ dual_answer settings course event false
   pub v6 : step.v6 ≡ dual_answer settings course event true
+
+-- a machine took no step, or it refused a call or ignored a datagram
+abbrev pub HasRefused : Option GatewayStep → Type 0
+HasRefused None = Unit {0}
+HasRefused (Some step) = IsRefused step.outcome
+
+-- and so did the other
+pub record HaveRefused (step : DualStep) : Type 0 where
+  pub v4 : HasRefused step.v4
+  pub v6 : HasRefused step.v6
 
 -- memory stopped a moment between the machines: the IPv4 one took its step, and the IPv6 one took none
 pub record HasStarvedBetween (settings : DualSettings) (course : DualCourse) (event : DualEvent) (dual : Dual) (step : DualStep) : Type 0 where

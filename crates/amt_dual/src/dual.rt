@@ -34,7 +34,7 @@ impl Dual {
     ghost use Rattle.std.specs.Prelude.{◌≡◌, ◌≤◌, ◌||◌, length, Bool, true, false, is_some, IfOk, OnErr};
     ghost use Rattle.gateway_machine.specs.{Answers.{call_in}, Events.{IsEventOf}};
     ghost use Rattle.socket_merge.specs.Interface.{wants};
-    ghost use Rattle.amt_dual.specs.Answers.{AreLawfulMachines, AreSteps, DualAfter, DualAt, HasStarvedBetween, MayComeTo, dual_start, machine_run, settings_at, with_dual_event};
+    ghost use Rattle.amt_dual.specs.Answers.{AreLawfulMachines, AreSteps, DualAfter, DualAt, HasStarvedBetween, HaveRefused, MayComeTo, dual_start, machine_run, settings_at, with_dual_event};
     ghost use Rattle.amt_dual.specs.declared.event.DualEvent.TheVariants as events;
 
     /// A dual gateway at moment 0: both machines are idle, without sockets. The first message of the IPv4
@@ -76,6 +76,10 @@ impl Dual {
             → HasStarvedBetween settings course event.now self.new step)) }
         ensures settings { (family : Bool) → settings_at self.new family ≡ settings_at self.old family }
         ensures err { OnErr result (self.new ≡ self.old) }
+
+        // A datagram that both machines ignore and a call that is refused change nothing, so nobody who sends
+        // them can fill the memory of a dual gateway or move it.
+        ensures same { IfOk result (λ step. HaveRefused step → self.new ≡ self.old) }
     {
         match event {
             DualEvent::Moment(at) => self.take_moment(alloc, at),
@@ -98,6 +102,7 @@ impl Dual {
             → HasStarvedBetween settings course (events.Moment at.now) self.new step)) }
         ensures settings { (family : Bool) → settings_at self.new family ≡ settings_at self.old family }
         ensures err { OnErr result (self.new ≡ self.old) }
+        ensures same { IfOk result (λ step. HaveRefused step → self.new ≡ self.old) }
     {
         let event = GatewayEvent::Moment(*at);
         let v4 = Some(self.v4.step(alloc, &event)?);
@@ -130,6 +135,7 @@ impl Dual {
         ensures all { IfOk result (λ step. step.starved ≡ false) }
         ensures settings { (family : Bool) → settings_at self.new family ≡ settings_at self.old family }
         ensures err { OnErr result (self.new ≡ self.old) }
+        ensures same { IfOk result (λ step. HaveRefused step → self.new ≡ self.old) }
     {
         let event = GatewayEvent::Datagram {
             from: *from,
@@ -167,6 +173,7 @@ impl Dual {
         ensures all { IfOk result (λ step. step.starved ≡ false) }
         ensures settings { (family : Bool) → settings_at self.new family ≡ settings_at self.old family }
         ensures err { OnErr result (self.new ≡ self.old) }
+        ensures same { IfOk result (λ step. HaveRefused step → self.new ≡ self.old) }
     {
         if v6 {
             let step = self.v6.step(alloc, event)?;
