@@ -376,14 +376,15 @@ impl DualPair {
         ensures err { ForTwins self.old place (λ setup course v4 v6. OnErr result (self.new ≡ self.old)) }
     {
         let mut parts = Vec::with_capacity(alloc, 2)?;
+        let next = self.next_place(place);
         let v4 = self.gateways.take_at(alloc, place, event, &mut self.up)?;
-        let is_for_next = was_ignored(&v4);
-        parts.push_reserved(part_of(v4, false));
-        if is_for_next {
-            let place = self.next_place(place);
-            let v6 = self.gateways.take_at(alloc, place, event, &mut self.up)?;
-            parts.push_reserved(part_of(v6, true));
+        if !was_ignored(&v4) {
+            parts.push_reserved(part_of(v4, false));
+            return Ok(self.step_of(parts, false));
         }
+        let v6 = self.gateways.take_at(alloc, next, event, &mut self.up)?;
+        parts.push_reserved(part_of(v4, false));
+        parts.push_reserved(part_of(v6, true));
         Ok(self.step_of(parts, false))
     }
 }
