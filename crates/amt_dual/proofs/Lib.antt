@@ -1,0 +1,4 @@
+pub mod DualStates
+pub mod MachineDeliveries
+pub mod SideBySide
+pub mod TwinPlaces

@@ -1,7 +1,7 @@
 -- The machines of dual gateways: the one that is found is the IPv4 one, and the IPv6 one follows it; and they are apart.
-use Rattle.std.{proofs.{Common.{◌≡◌, ◌≢◌, ℕ, zero, suc, ◌<◌, ◌≤◌, ◌×◌, ◌||◌, ◌&&◌, not, Bool, true, false, HoldsAt, List, [], ◌∷◌, ◌++◌, map, length, get_or, All, AllPairs, Contains, refl, sym, ap, ◌∙◌, subst, subst₂, arith, true≢false, inl, inr}, lemmas.{Bool.{and_from, and_parts, cases_order, not-true, not_from_false, or_left, or_right}, List.{get_or_default, get_or-map, length-map, Folds.{list_any_at}}}}, specs.{Cmp.{nat_eq_equiv, Lexicographic.{lists_equiv, same_text}}, List.{AllWithin}}}
+use Rattle.std.{proofs.{Common.{◌≡◌, ◌≢◌, ℕ, zero, suc, ◌<◌, ◌≤◌, ◌×◌, ◌||◌, ◌&&◌, not, Bool, true, false, HoldsAt, List, [], ◌∷◌, ◌++◌, map, length, get_or, All, AllPairs, Contains, Option, Some, IfSome, refl, sym, ap, ◌∙◌, subst, subst₂, arith, true≢false, inl, inr}, lemmas.{Bool.{and_from, and_parts, cases_order, not-true, not_from_false, or_left, or_right}, List.{get_or_default, get_or-map, length-map, Folds.{list_any_at}}}}, specs.{Cmp.{nat_eq_equiv, Lexicographic.{lists_equiv, same_text}}, List.{AllWithin}}}
 use Rattle.amt_values.specs.{Endpoint.{endpoint_of}, EndpointValue.{EndpointValue}, declared.peer.Peer.{Peer}}
-use Rattle.gateway_machine.specs.Answers.{same_peer}
+use Rattle.gateway_machine.specs.{Answers.{same_peer}, Runs.{settings_of}}
 use Rattle.socket_merge.specs.History.{same_name}
 use Rattle.amt_pair.{specs.{Members.{AreMembersAt, host_of}, OwnEndpoints.{HasOwnEndpoint}, Schedule.{Member, has_name, is_at, is_endpoint}, Setup.{Host, has_taken}, declared.gateways.NamedGateway.{NamedGateway}}, proofs.{Alone.{PassesOnce}, HeardQueries.{same_peer-is, same_peer-itself}, HostsApart.{apart_back, peers_at}, MembersAt.{are_at, host_at, host_is, hosts_are, lengths_are}}}
 use Rattle.amt_dual.{specs.{Answers.{is_machine}, Schedule.{is_called}, Twins.{AreMachinesApart, are_of_one, are_twins}}, proofs.SideBySide.{holds_map, two_apart}}
@@ -62,6 +62,56 @@ first_twins test alike gateways place twins within found first =
     (λ one. holds_map host_of (λ (host : Host). test host ≡ true) gateways place one within found)
     (λ k one below. holds_map host_of (λ (host : Host). test host ≡ false) gateways k one (omega arith) (λ d. first k d (omega arith) below))
 
+-- the hosts there
+pub twins_there : (gateways : List NamedGateway) (place : ℕ) (d : NamedGateway) → AreTwinsAt (map host_of gateways) place
+    → are_of_one (host_of (get_or gateways place d)) (host_of (get_or gateways (suc place) d)) ≡ true
+twins_there gateways place d at =
+    let long = length-map gateways host_of in
+    subst₂ (λ (one : Host) (other : Host). are_of_one one other ≡ true)
+    (get_or-map host_of gateways place d (host_of d) (omega (arith, at.within)))
+    (get_or-map host_of gateways (suc place) d (host_of d) (omega (arith, at.within)))
+    (at.twins (host_of d) (host_of d))
+
+-- the machine of a name and a family is at the place
+pub record IsCalledAt (name : List ℕ) (v6 : Bool) (gateways : List NamedGateway) (place : ℕ) : Type 0 where
+  pub within : place < length gateways
+  pub found : HoldsAt (λ one. (same_name name one.name && is_machine v6 (settings_of one.gateway).v6) ≡ true) gateways place
+
+-- where the first gateway of a name is found, its IPv4 machine is there and its IPv6 machine after it
+module _ (name : List ℕ) (gateways : List NamedGateway) (place : ℕ) (twins : are_twins (map host_of gateways) ≡ true) (answer : Option ℕ) (is : answer ≡ Some place)
+    (within : IfSome answer (λ place. place < length gateways)) (found : IfSome answer (HoldsAt (λ one. same_name name one.name ≡ true) gateways))
+    (first : IfSome answer (AllWithin (λ one. same_name name one.name ≡ false) gateways 0)) where
+  pub within_by : place < length gateways
+  within_by = subst (λ (answer : Option ℕ). IfSome answer (λ place. place < length gateways)) is within
+
+  found_by : HoldsAt (λ one. same_name name one.name ≡ true) gateways place
+  found_by = subst (λ (answer : Option ℕ). IfSome answer (HoldsAt (λ (one : NamedGateway). same_name name one.name ≡ true) gateways)) is found
+
+  twins_by : AreTwinsAt (map host_of gateways) place
+  twins_by =
+      first_twins (λ host. same_name name host.name) (names_alike name) gateways place twins within_by found_by
+      (subst (λ (answer : Option ℕ). IfSome answer (AllWithin (λ (one : NamedGateway). same_name name one.name ≡ false) gateways 0)) is first)
+
+  pub first_called : IsCalledAt name false gateways place
+  first_called = record {
+    within = within_by;
+    found = λ d.
+        let one = get_or gateways place d in
+        and_from (same_name name one.name) (not (settings_of one.gateway).v6) (found_by d)
+        (not_from_false (settings_of one.gateway).v6 (twin-first (host_of one) (host_of (get_or gateways (suc place) d)) (twins_there gateways place d twins_by)));
+  }
+
+  pub next_called : IsCalledAt name true gateways (suc place)
+  next_called = record {
+    within = omega (arith, twins_by.within, length-map gateways host_of);
+    found = λ d.
+        let one = get_or gateways place d in
+        let other = get_or gateways (suc place) d in
+        let both = twins_there gateways place d twins_by in
+        and_from (same_name name other.name) (settings_of other.gateway).v6
+        (sym (names_alike name (host_of one) (host_of other) both) ∙ found_by d) (twin-second (host_of one) (host_of other) both);
+  }
+
 -- the members that both machines are, which pass the test
 pub record AreMachinesAt (test : Host → Bool) (members : List Member) (place : ℕ) : Type 0 where
   pub v4 : Member
@@ -76,16 +126,15 @@ pub record AreMachinesAt (test : Host → Bool) (members : List Member) (place :
 pub machines_at : (test : Host → Bool) → AnswerAlike test → (gateways : List NamedGateway) (members : List Member) (place : ℕ) → AreMembersAt gateways members
     → AreTwinsAt (map host_of gateways) place → HoldsAt (λ one. test (host_of one) ≡ true) gateways place → AreMachinesAt test members place
 machines_at test alike gateways members place are at found =
-    let there : AreTwinsAt (map host_at members) place = subst (λ (hosts : List Host). AreTwinsAt hosts place) (hosts_are gateways members are) at in
     let long = length-map gateways host_of in
     let one = are_at gateways members place are (omega (arith, at.within)) in
     let other = are_at gateways members (suc place) are (omega (arith, at.within)) in
     let within : suc place < length members = omega (arith, at.within, lengths_are gateways members are) in
     let twins : are_of_one one.member.host other.member.host ≡ true =
     subst₂ (λ (v4 : Host) (v6 : Host). are_of_one v4 v6 ≡ true)
-    (get_or-map host_at members place one.member (host_at one.member) (omega arith) ∙ ap host_at one.there)
-    (get_or-map host_at members (suc place) other.member (host_at other.member) within ∙ ap host_at other.there)
-    (there.twins (host_at one.member) (host_at other.member)) in
+    (ap host_of one.here ∙ host_is one.named one.member one.at)
+    (ap host_of (get_or_default gateways (suc place) one.named other.named (omega (arith, at.within)) ∙ other.here) ∙ host_is other.named other.member other.at)
+    (twins_there gateways place one.named at) in
     let first : test one.member.host ≡ true =
     ap test (sym (host_is one.named one.member one.at)) ∙ ap (λ (named : NamedGateway). test (host_of named)) (sym one.here) ∙ found one.named in
     record {
