@@ -1,5 +1,5 @@
 -- What a pair with dual gateways stands for: after a step of the relay, of one machine, or of all; and with one more gateway.
-use Rattle.std.{proofs.{Props.{props}, Common.{◌≡◌, ◌≢◌, ◌<◌, ◌×◌, ◌||◌, ◌&&◌, not, ℕ, zero, suc, HoldsAt, Bool, true, false, List, [], ◌∷◌, ◌++◌, map, flat_map, filter, take, get_or, length, All, Contains, Option, Some, None, refl, sym, ap, ◌∙◌, subst, arith, OnOk, OnErr, Result, Ok, Err}, lemmas.{Bool.{and_from, and_parts, or_parts}, Grind.{flat_map-append}, List.{map-append, get_or-map, length-map, Elements.{All-cons, All-nil, All-push}, Quantifiers.{all_pairs_push}}}}, specs.Cmp.{nat_eq_equiv, Lexicographic.{lists_equiv, same_text}}}
+use Rattle.std.{proofs.{Props.{props}, Common.{◌≡◌, ◌≢◌, ◌<◌, ◌||◌, ◌&&◌, not, ℕ, zero, suc, HoldsAt, Bool, true, false, List, [], ◌∷◌, ◌++◌, map, flat_map, filter, take, get_or, length, All, Contains, Option, Some, None, refl, sym, ap, ◌∙◌, subst, arith, OnOk, OnErr, Result, Ok, Err}, lemmas.{Bool.{and_from, and_parts, or_parts}, Grind.{flat_map-append}, List.{map-append, get_or-map, length-map, Elements.{All-cons, All-nil, All-push}, Quantifiers.{all_pairs_push}}}}, specs.Cmp.{nat_eq_equiv, Lexicographic.{lists_equiv, same_text}}}
 use mathlib.Core.HLevel.{is_prop→PathP}
 use Rattle.amt_values.specs.declared.peer.Peer.{Peer}
 use Rattle.gateway_machine.specs.{Answers.{same_peer}, Events.{IsEventOf}, Runs.{settings_of}, declared.{event.GatewayEvent.{GatewayEvent}, outcome.GatewayOutcome.{GatewayOutcome, TheVariants.{Ignored}}}, Outcomes.{IsRefused}}
@@ -43,7 +43,7 @@ in_turn [] twins = tt
 in_turn (one ∷ []) twins = absurd cc
 in_turn (v4 ∷ v6 ∷ members) twins =
     let both = and_parts (are_of_one v4.host v6.host) (are_twins (map host_at members)) twins in
-    (twin-first v4.host v6.host both.0, twin-second v4.host v6.host both.0, in_turn members both.1)
+    (twin-first v4.host v6.host both.0, (twin-second v4.host v6.host both.0, in_turn members both.1))
 
 pub some_in_turn : (count : ℕ) (v6 : Bool) (members : List Member) → AreInTurn v6 members → AreInTurn v6 (take count members)
 some_in_turn zero v6 members are = tt

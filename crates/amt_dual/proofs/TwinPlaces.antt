@@ -1,10 +1,10 @@
 -- The machines of dual gateways: the one that is found is the IPv4 one, and the IPv6 one follows it; and they are apart.
-use Rattle.std.{proofs.{Common.{◌≡◌, ◌≢◌, ℕ, zero, suc, ◌<◌, ◌≤◌, ◌×◌, ◌||◌, ◌&&◌, not, Bool, true, false, HoldsAt, List, [], ◌∷◌, ◌++◌, map, length, get_or, All, AllPairs, Contains, Option, Some, IfSome, refl, sym, ap, ◌∙◌, subst, subst₂, arith, true≢false, inl, inr}, lemmas.{Bool.{and_from, and_parts, cases_order, not-true, not_from_false, or_left, or_right}, List.{get_or_default, get_or-map, length-map, Folds.{list_any_at}}}}, specs.{Cmp.{nat_eq_equiv, Lexicographic.{lists_equiv, same_text}}, List.{AllWithin}}}
+use Rattle.std.{proofs.{Common.{◌≡◌, ◌≢◌, ℕ, zero, suc, ◌<◌, ◌≤◌, ◌||◌, ◌&&◌, not, Bool, true, false, HoldsAt, List, [], ◌∷◌, ◌++◌, map, length, get_or, All, AllPairs, Contains, Option, Some, IfSome, refl, sym, ap, ◌∙◌, subst, subst₂, arith, true≢false, inl, inr}, lemmas.{Bool.{and_from, and_parts, cases_order, not-true, not_from_false, or_left, or_right}, List.{get_or_default, get_or-map, length-map, Folds.{list_any_at}}}}, specs.{Cmp.{nat_eq_equiv, Lexicographic.{lists_equiv, same_text}}, List.{AllWithin}}}
 use Rattle.amt_values.specs.{Endpoint.{endpoint_of}, EndpointValue.{EndpointValue}, declared.peer.Peer.{Peer}}
 use Rattle.gateway_machine.specs.{Answers.{same_peer}, Runs.{settings_of}}
 use Rattle.socket_merge.specs.History.{same_name}
 use Rattle.amt_pair.{specs.{Members.{AreMembersAt, host_of}, OwnEndpoints.{HasOwnEndpoint}, Schedule.{Member, has_name, is_at, is_endpoint}, Setup.{Host, has_taken}, declared.gateways.NamedGateway.{NamedGateway}}, proofs.{Alone.{PassesOnce}, HeardQueries.{same_peer-is, same_peer-itself}, HostsApart.{apart_back, peers_at}, MembersAt.{are_at, host_at, host_is, hosts_are, lengths_are}}}
-use Rattle.amt_dual.{specs.{Answers.{is_machine}, Schedule.{is_called}, Twins.{AreMachinesApart, are_of_one, are_twins}}, proofs.SideBySide.{holds_map, two_apart}}
+use Rattle.amt_dual.{specs.{Answers.{is_machine}, Schedule.{is_called}, Twins.{AreMachinesApart, are_of_one, are_twins, name_and_family, peer_and_family}}, proofs.SideBySide.{holds_map, two_apart}}
 
 -- ---- twins
 
@@ -170,7 +170,7 @@ module _ (members : List Member) (apart : AreMachinesApart (map host_at members)
       let that = and_parts (has_name name (get_or members j d)) (is_machine v6 (get_or members j d).host.settings.v6) other in
       let names : (get_or members i d).host.name ≡ (get_or members j d).host.name = sym (same_text name _ (sym this.0)) ∙ same_text name _ (sym that.0) in
       let kinds : (get_or members i d).host.settings.v6 ≡ (get_or members j d).host.settings.v6 = sym (machine-is v6 _ this.1) ∙ machine-is v6 _ that.1 in
-      apart_back host_at (λ one other. (one.name , one.settings.v6) ≢ (other.name , other.settings.v6)) members apart.names i j d low high (λ t. (names t , kinds t))
+      apart_back host_at (λ one other. name_and_family one ≢ name_and_family other) members apart.names i j d low high (λ t. (names t, kinds t))
 
   -- or are at the endpoint and of a family
   pub once_there : (endpoint : EndpointValue) (v6 : Bool) → All (λ host. HasOwnEndpoint host.peer) (map host_at members) → PassesOnce (is_there endpoint v6) members
@@ -180,7 +180,7 @@ module _ (members : List Member) (apart : AreMachinesApart (map host_at members)
       let peers : (get_or members i d).host.peer ≡ (get_or members j d).host.peer =
       peers_at endpoint _ _ (own_at i (omega arith)) (own_at j high) this.0 that.0 in
       let kinds : (get_or members i d).host.settings.v6 ≡ (get_or members j d).host.settings.v6 = sym (machine-is v6 _ this.1) ∙ machine-is v6 _ that.1 in
-      apart_back host_at (λ one other. (one.peer , one.settings.v6) ≢ (other.peer , other.settings.v6)) members apart.peers i j d low high (λ t. (peers t , kinds t))
+      apart_back host_at (λ one other. peer_and_family one ≢ peer_and_family other) members apart.peers i j d low high (λ t. (peers t, kinds t))
     where
       own_at : (k : ℕ) → k < length members → HasOwnEndpoint (get_or members k d).host.peer
       own_at k below = subst (λ (host : Host). HasOwnEndpoint host.peer) (get_or-map host_at members k d (host_at d) below) (own k (host_at d) (omega (arith, length-map members host_at)))
@@ -190,12 +190,11 @@ pub one-machine : (machines : List Host) (one other : Host) → AreMachinesApart
     → one.settings.v6 ≡ other.settings.v6 → one ≡ other
 one-machine machines one other apart (i, low, here) (j, high, there) names kinds =
     let again : get_or machines j one ≡ other = get_or_default machines j one other high ∙ there in
-    let named : Host → List ℕ × Bool = λ host. (host.name , host.settings.v6) in
-    let same : named one ≡ named other = λ t. (names t , kinds t) in
+    let same : name_and_family one ≡ name_and_family other = λ t. (names t, kinds t) in
     elim (cases_order i j) [
       | inl place ↦ sym here ∙ ap (λ (k : ℕ). get_or machines k one) place ∙ again
-      | inr (inl before) ↦ absurd (apart.names i j one before high (ap named here ∙ same ∙ ap named (sym again)))
-      | inr (inr later) ↦ absurd (apart.names j i one later low (ap named again ∙ sym same ∙ ap named (sym here)))
+      | inr (inl before) ↦ absurd (apart.names i j one before high (ap name_and_family here ∙ same ∙ ap name_and_family (sym again)))
+      | inr (inr later) ↦ absurd (apart.names j i one later low (ap name_and_family again ∙ sym same ∙ ap name_and_family (sym here)))
     ]
 
 -- ---- one more gateway
@@ -208,9 +207,9 @@ twins_more (one ∷ other ∷ hosts) v4 v6 twins new =
     and_from (are_of_one one other) (are_twins (hosts ++ v4 ∷ v6 ∷ [])) both.0 (twins_more hosts v4 v6 both.1 new)
 
 -- a name and a peer that are free are those of no machine
-pub record IsFree (name : List ℕ) (peer : Peer) (host : Host) : Type 0 where
-  pub name : host.name ≢ name
-  pub peer : host.peer ≢ peer
+pub record IsFree (free_name : List ℕ) (free_peer : Peer) (host : Host) : Type 0 where
+  pub name : host.name ≢ free_name
+  pub peer : host.peer ≢ free_peer
 
 pub all_free : (name : List ℕ) (peer : Peer) (machines : List Host) → has_taken name peer machines ≡ false → All (IsFree name peer) machines
 all_free name peer machines free k d below =
@@ -229,11 +228,11 @@ pub machines_apart_more : (machines : List Host) (v4 v6 : Host) → AreMachinesA
 machines_apart_more machines v4 v6 apart free twins =
     let kinds : v4.settings.v6 ≡ v6.settings.v6 → ⊥ = λ same. true≢false (sym (twin-second v4 v6 twins) ∙ sym same ∙ twin-first v4 v6 twins) in
     record {
-      names = two_apart (λ (one : Host) (other : Host). (one.name , one.settings.v6) ≢ (other.name , other.settings.v6)) machines v4 v6 apart.names
+      names = two_apart (λ (one : Host) (other : Host). name_and_family one ≢ name_and_family other) machines v4 v6 apart.names
           (λ k d below same. (free k d below).name (ap (λ (both : List ℕ × Bool). both.0) same))
           (λ k d below same. (free k d below).name (ap (λ (both : List ℕ × Bool). both.0) same ∙ sym (twin-names v4 v6 twins)))
           (λ same. kinds (ap (λ (both : List ℕ × Bool). both.1) same));
-      peers = two_apart (λ (one : Host) (other : Host). (one.peer , one.settings.v6) ≢ (other.peer , other.settings.v6)) machines v4 v6 apart.peers
+      peers = two_apart (λ (one : Host) (other : Host). peer_and_family one ≢ peer_and_family other) machines v4 v6 apart.peers
           (λ k d below same. (free k d below).peer (ap (λ (both : Peer × Bool). both.0) same))
           (λ k d below same. (free k d below).peer (ap (λ (both : Peer × Bool). both.0) same ∙ sym (twin-peers v4 v6 twins)))
           (λ same. kinds (ap (λ (both : Peer × Bool). both.1) same));
