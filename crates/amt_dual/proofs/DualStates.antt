@@ -1,5 +1,5 @@
 -- What a pair with dual gateways stands for: after a step of the relay, of one machine, or of all; and with one more gateway.
-use Rattle.std.{proofs.{Props.{props}, Common.{◌≡◌, ◌≢◌, ◌<◌, ◌||◌, ◌&&◌, not, ℕ, zero, suc, HoldsAt, Bool, true, false, List, [], ◌∷◌, ◌++◌, map, flat_map, filter, take, get_or, length, All, Contains, Option, Some, None, refl, sym, ap, ◌∙◌, subst, arith, OnOk, OnErr, Result, Ok, Err}, lemmas.{Bool.{and_from, and_parts, or_parts}, Grind.{flat_map-append}, List.{map-append, get_or-map, length-map, Elements.{All-cons, All-nil, All-push}, Quantifiers.{all_pairs_push}}}}, specs.Cmp.{nat_eq_equiv, Lexicographic.{lists_equiv, same_text}}}
+use Rattle.std.{proofs.{Props.{props}, Common.{◌≡◌, ◌≢◌, ◌<◌, ◌||◌, ◌&&◌, not, ℕ, zero, suc, HoldsAt, Bool, true, false, List, [], ◌∷◌, ◌++◌, map, flat_map, filter, take, get_or, length, All, Contains, Option, Some, None, refl, sym, ap, ◌∙◌, subst, arith, OnOk, OnErr, Result, Ok, Err}, lemmas.{Bool.{and_from, and_parts, or_parts}, Grind.{flat_map-append}, List.{map-append, get_or-map, length-map, Elements.{All-cons, All-head, All-nil, All-tail}, Quantifiers.{all_pairs_push}}}}, specs.Cmp.{nat_eq_equiv, Lexicographic.{lists_equiv, same_text}}}
 use mathlib.Core.HLevel.{is_prop→PathP}
 use Rattle.amt_values.specs.declared.peer.Peer.{Peer}
 use Rattle.gateway_machine.specs.{Answers.{same_peer}, Events.{IsEventOf}, Runs.{settings_of}, declared.{event.GatewayEvent.{GatewayEvent}, outcome.GatewayOutcome.{GatewayOutcome, TheVariants.{Ignored}}}, Outcomes.{IsRefused}}
@@ -95,10 +95,15 @@ machine_may_come event name v6 gateways place host apart within found contains n
 
 -- ---- one more gateway
 
-pub twins_of : (settings : Settings) (host : DualHost) (v4 v6 : Host) → v4 ∷ v6 ∷ [] ≡ machines_of settings host → are_of_one v4 v6 ≡ true
-twins_of settings host v4 v6 is =
-    subst (λ (both : List Host). are_of_one (get_or both 0 v4) (get_or both 1 v6) ≡ true) (sym is)
-    (and_from (same_name host.name host.name) (same_peer host.peer host.peer) ((lists_equiv nat_eq_equiv).refl host.name) (same_peer-itself host.peer))
+pub twins_of : (settings : Settings) (host : DualHost) → are_of_one (machine_of settings false host) (machine_of settings true host) ≡ true
+twins_of settings host =
+    and_from (same_name host.name host.name) (same_peer host.peer host.peer) ((lists_equiv nat_eq_equiv).refl host.name) (same_peer-itself host.peer)
+
+-- what holds of the machines with those of one more gateway
+pub hosts_more : (Fact : List Host → Type 0) (settings : Settings) (gateways both : List NamedGateway) (host : DualHost) → map host_of both ≡ machines_of settings host
+    → Fact (map host_of gateways ++ machines_of settings host) → Fact (map host_of (gateways ++ both))
+hosts_more Fact settings gateways both host are fact =
+    subst Fact (ap (λ (more : List Host). map host_of gateways ++ more) (sym are) ∙ sym (map-append host_of gateways both)) fact
 
 -- a name and a peer that no machine has are those of no gateway
 abbrev pub IsFreeOf : List ℕ → Peer → DualHost → Type 0
@@ -107,9 +112,12 @@ IsFreeOf name peer host = (host.name ≢ name) × (host.peer ≢ peer)
 pub gateways_free : (settings : Settings) (name : List ℕ) (peer : Peer) (hosts : List DualHost) → All (IsFree name peer) (flat_map (machines_of settings) hosts) → All (IsFreeOf name peer) hosts
 gateways_free settings name peer [] free = All-nil (IsFreeOf name peer)
 gateways_free settings name peer (host ∷ hosts) free =
-    let first = free 0 (machine_of settings false host) (omega arith) in
+    let v4 = machine_of settings false host in
+    let v6 = machine_of settings true host in
+    let rest = flat_map (machines_of settings) hosts in
+    let first : IsFree name peer v4 = All-head (IsFree name peer) v4 (v6 ∷ rest) free in
     All-cons (IsFreeOf name peer) host hosts (first.name, first.peer)
-    (gateways_free settings name peer hosts (λ k d below. free (suc (suc k)) d (omega arith)))
+    (gateways_free settings name peer hosts (All-tail (IsFree name peer) v6 rest (All-tail (IsFree name peer) v4 (v6 ∷ rest) free)))
 
 pub dual_apart_more : (hosts : List DualHost) (host : DualHost) → AreDualApart hosts → All (IsFreeOf host.name host.peer) hosts → AreDualApart (hosts ++ host ∷ [])
 dual_apart_more hosts host apart free = record {
