@@ -5,9 +5,9 @@ use Rattle.amt_values.specs.declared.peer.Peer.{Peer}
 use Rattle.gateway_machine.specs.{Answers.{same_peer}, Events.{IsEventOf}, Runs.{settings_of}, declared.{event.GatewayEvent.{GatewayEvent}, outcome.GatewayOutcome.{GatewayOutcome, TheVariants.{Ignored}}}, Outcomes.{IsRefused}}
 use Rattle.relay_machine.specs.{Accepted.{change_of}, Answers.{outcome_of, sends_of}, declared.{event.Event.{Event}, relay.Relay.{Relay as RelayValue}, sends.{OneSend.{OneSend}, Step.{Step}}, settings.Settings.{Settings}}}
 use Rattle.socket_merge.specs.History.{same_name}
-use Rattle.amt_pair.specs.{Members.{AreMembersAt, AreShort, AreShortSends, host_of}, OwnEndpoints.{HasOwnEndpoint}, Parts.{gateway_part, gateway_parts, gateway_step, relay_step}, Schedule.{Course, Member, answer_at}, Setup.{Host, PairSetup, has_taken, relay_peer}, State.{with_member_at}, declared.{datagrams.UpDatagram.{UpDatagram}, gateways.NamedGateway.{NamedGateway}}}
+use Rattle.amt_pair.specs.{Members.{AreMembersAt, AreShort, AreShortSends, host_of}, OwnEndpoints.{HasOwnEndpoint}, Parts.{gateway_part, gateway_parts, gateway_step, relay_step}, Schedule.{Course, Member, answer_at}, Setup.{Host, PairSetup, has_taken, relay_peer}, State.{with_member_at}, declared.{datagrams.UpDatagram.{UpDatagram}, gateways.NamedGateway.{NamedGateway}, step.Part.{Part}}}
 use Rattle.amt_pair.proofs.{Alone.{PassesOnce}, HeardQueries.{same_peer-itself}, MembersAt.{are_at, host_at, host_is, hosts_are, lengths_are}}
-use Rattle.amt_dual.specs.{Answers.{is_ignored, is_machine}, InTurn.{part_of, parts_in_turn}, Parts.{machine_part, machine_parts}, Schedule.{IsDualPairEvent, at_first, dual_course_of, dual_pair_start, is_called}, Setup.{AreDualApart, DualHost, DualSetup, IsDualHost, IsLawfulDualSetup, machine_of, machines_in, machines_of}, State.{DualPairAt, StandsFor, machines}, Twins.{AreMachinesApart, are_of_one, are_twins}}
+use Rattle.amt_dual.specs.{Answers.{is_ignored, is_machine}, InTurn.{is_ignored_part, part_of, parts_in_turn}, Parts.{machine_part, machine_parts}, Schedule.{IsDualPairEvent, at_first, dual_course_of, dual_pair_start, is_called}, Setup.{AreDualApart, DualHost, DualSetup, IsDualHost, IsLawfulDualSetup, machine_of, machines_in, machines_of}, State.{DualPairAt, StandsFor, machines}, Twins.{AreMachinesApart, are_of_one, are_twins}}
 use Rattle.amt_dual.{specs.declared.{event.DualPairEvent.{DualPairEvent}, pair.DualPair.{DualPair}, step.DualPart.{DualPart, TheVariants.{Gateway, Relay}}}, proofs.{MachineDeliveries.{IsForMachine, for_machine}, TwinPlaces.{IsFree, machine-is, once_called, one-machine, twin-first, twin-second}}}
 
 -- ---- a step
@@ -30,6 +30,11 @@ machine_part_is event v6 member is = λ i. Gateway member.host.name (sym is i) (
 -- the pair that stands for a course stands for an equal one
 pub stands_by : (setup : PairSetup) (before after : Course) (pair : DualPair) → StandsFor pair setup before → before ≡ after → StandsFor pair setup after
 stands_by setup before after pair stands same = subst (StandsFor pair setup) same stands
+
+-- whether the IPv4 machine ignored the event, by its part
+pub ignored_by : (event : GatewayEvent) (part : Part) (member : Member) (answer : Bool) → part ≡ gateway_part event member → answer ≡ is_ignored_part part
+    → answer ≡ is_ignored (answer_at member event).outcome
+ignored_by event part member answer is told = told ∙ ap is_ignored_part is
 
 -- ---- parts in turn
 

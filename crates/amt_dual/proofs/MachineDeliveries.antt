@@ -123,9 +123,12 @@ module _ (setup : PairSetup) (course : Course) (send : OneSend) (place : ℕ) (a
       let kind : Bool = (get_or course.members k d).host.settings.v6 in
       let both = and_parts (is_at send.to (get_or course.members k d)) (if kind then is_left else true) is in
       elim (cases_Bool kind) [
-        | inl yes ↦ not_next (at_second_place k d below (and_from (is_at send.to (get_or course.members k d)) kind both.0 yes))
-        | inr no ↦ not_here (at_first_place k d below (and_from (is_at send.to (get_or course.members k d)) (not kind) both.0 (not_from_false kind no)))
+        | inl second ↦ not_next (at_second_place k d below (and_from (is_at send.to (get_or course.members k d)) kind both.0 second))
+        | inr first ↦ not_here (at_first_place k d below (and_from (is_at send.to (get_or course.members k d)) (not kind) both.0 (not_from_false kind first)))
       ])
+
+  one_more : suc place ≡ place + 1
+  one_more = omega arith
 
   pub delivered : AreDelivered setup course send place at.v4 at.v6
   delivered = elim (cases_Bool (is_ignored (answer_at at.v4 delivery).outcome)) [
@@ -136,6 +139,7 @@ module _ (setup : PairSetup) (course : Course) (send : OneSend) (place : ℕ) (a
         let both = for_both delivery takes course place at.v4 at.v6 take_both at.within at.here at.next first_takes second in
         record {
           reached = both.reached
+              ∙ ap (λ (next : ℕ). with_member_at (with_member_at course delivery place at.v4) delivery next at.v6) one_more
               ∙ sym (cond-true (is_ignored (answer_at at.v4 delivery).outcome) (with_member_at (with_member_at course delivery place at.v4) delivery (place + 1) at.v6) (with_member_at course delivery place at.v4) ignored);
           parts = both.parts
               ∙ sym (cond-true (is_ignored (answer_at at.v4 delivery).outcome) (machine_part delivery at.v4 ∷ machine_part delivery at.v6 ∷ []) (machine_part delivery at.v4 ∷ []) ignored);
@@ -153,6 +157,10 @@ module _ (setup : PairSetup) (course : Course) (send : OneSend) (place : ℕ) (a
 -- where the gateways are
 pub record AreReached (setup : PairSetup) (course : Course) (send : OneSend) (place : ℕ) : Type 0 where
   pub at : AreMachinesAt (λ host. is_endpoint send.to (endpoint_of host.peer)) course.members place
+  one_more : suc place ≡ place + 1
+  one_more = omega arith
+
+  pub next : get_or course.members (place + 1) at.v6 ≡ at.v6
   pub delivered : AreDelivered setup course send place at.v4 at.v6
   pub some : (number : ℕ) → or_absent number (twin_parts (delivery_down setup send) at.v4 at.v6) ≡ twin_parts (delivery_down setup send) at.v4 at.v6
 
@@ -169,8 +177,10 @@ reached_at setup course send gateways place are twins apart own within found fir
     let same = hosts_are gateways course.members are in
     let at = machines_at test (endpoints_alike send.to) gateways course.members place are (first_twins test (endpoints_alike send.to) gateways place twins within found first) found in
     let event = delivery_down setup send in
+    let one_more : place + 1 ≡ suc place = omega arith in
     record {
       at = at;
+      next = ap (λ (k : ℕ). get_or course.members k at.v6) one_more ∙ at.next;
       delivered = delivered setup course send place at (subst AreMachinesApart same apart) (subst (All (λ host. HasOwnEndpoint host.peer)) same own);
       some = λ number. some-part number (is_ignored (answer_at at.v4 event).outcome) (machine_part event at.v4) (machine_part event at.v6 ∷ []);
     }
@@ -183,10 +193,13 @@ pub record IsDeliveredToNone (setup : PairSetup) (course : Course) (send : OneSe
 pub none_delivered : (setup : PairSetup) (course : Course) (send : OneSend) → NonePasses (is_at send.to) course.members → IsDeliveredToNone setup course send
 none_delivered setup course send none =
     let takes = takes_delivery setup course.members send in
-    let no : NonePasses takes course.members = λ k d below.
-    let member = get_or course.members k d in
-    and_left (is_at send.to member) (if member.host.settings.v6 then list_any (ignores send.to (delivery_down setup send)) course.members else true) (none k d below) in
+    let no : NonePasses takes course.members =
+    λ k d below. not_there (get_or course.members k d) (none k d below) in
     record { reached = none_reached (delivery_down setup send) takes course no; parts = no_machine_part (delivery_down setup send) takes course no }
+  where
+    not_there : (member : Member) → is_at send.to member ≡ false → takes_delivery setup course.members send member ≡ false
+    not_there member away =
+        and_left (is_at send.to member) (if member.host.settings.v6 then list_any (ignores send.to (delivery_down setup send)) course.members else true) away
 
 -- the delivery of a number
 module _ (setup : PairSetup) (course : Course) (number : ℕ) where

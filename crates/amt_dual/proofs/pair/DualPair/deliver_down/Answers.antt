@@ -57,7 +57,7 @@ returns-clause-parts c = λ setup course stands.
     ∙ sym (are.some c.args.number)
     ∙ dual_down_parts setup course c.args.number send (twin_parts (delivery_down setup send) are.at.v4 are.at.v6) found are.delivered.parts)
     (c.deliver_at.ensures.parts setup course are.at.v4 are.at.v6
-    (record { relay = stands.relay; gateways = stands.gateways; up = stands.up; down = stands.down }) are.at.here are.at.next are.at.twins)
+    (record { relay = stands.relay; gateways = stands.gateways; up = stands.up; down = stands.down }) are.at.here are.next are.at.twins)
 
 pub returns-clause-next : goal.returns-clause-next
 returns-clause-next c = λ setup course stands.
@@ -75,7 +75,7 @@ returns-clause-next c = λ setup course stands.
     (ap (λ (event : GatewayEvent). with_twins_at course event place.place are.at.v4 are.at.v6) delivery
     ∙ dual_down_reaches setup course c.args.number send (with_twins_at course (delivery_down setup send) place.place are.at.v4 are.at.v6) found are.delivered.reached) now)
     (c.deliver_at.ensures.next setup course are.at.v4 are.at.v6
-    (record { relay = stands.relay; gateways = stands.gateways; up = stands.up; down = stands.down }) are.at.here are.at.next are.at.twins)
+    (record { relay = stands.relay; gateways = stands.gateways; up = stands.up; down = stands.down }) are.at.here are.next are.at.twins)
 
 pub returns-clause-err : goal.returns-clause-err
 returns-clause-err c = λ setup course stands.
@@ -83,4 +83,4 @@ returns-clause-err c = λ setup course stands.
     let place = c.in-Some-place_of_endpoint in
     let are = reached_at setup course c.in-Some.send.now pair.gateways place.place stands.gateways pair.twins pair.apart pair.own_endpoints place.ensures.within place.ensures.found place.ensures.first in
     c.deliver_at.ensures.err setup course are.at.v4 are.at.v6
-    (record { relay = stands.relay; gateways = stands.gateways; up = stands.up; down = stands.down }) are.at.here are.at.next are.at.twins
+    (record { relay = stands.relay; gateways = stands.gateways; up = stands.up; down = stands.down }) are.at.here are.next are.at.twins
