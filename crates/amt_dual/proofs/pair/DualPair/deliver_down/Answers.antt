@@ -1,4 +1,4 @@
-use Rattle.std.proofs.{Common.{◌≡◌, ◌≤◌, ℕ, List, [], map, length, Some, refl, sym, ap, ◌∙◌, subst, arith}, lemmas.{List.{length-map}, Result.{IfOk-weaker}}}
+use Rattle.std.proofs.{Common.{◌≡◌, ◌≤◌, ℕ, List, [], length, Some, refl, sym, ap, ◌∙◌, subst, arith}, lemmas.{List.{length-map}, Result.{IfOk-weaker}}}
 use Rattle.amt_values.specs.Endpoint.{endpoint_of}
 use Rattle.gateway_machine.specs.declared.event.GatewayEvent.{GatewayEvent}
 use Rattle.relay_machine.specs.declared.sends.OneSend.{OneSend}
