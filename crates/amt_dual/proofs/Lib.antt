@@ -1,0 +1,5 @@
+pub mod DualAgrees
+pub mod DualCourses
+pub mod DualSteps
+pub mod MachineSights
+pub mod Machines
