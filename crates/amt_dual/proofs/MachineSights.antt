@@ -76,9 +76,9 @@ found-in : (own : Bool) (found : Option SentReport) (report : SentReport) → (i
 found-in true found report is = (refl, is)
 found-in false found report is = absurd cc
 
-neither : (test : Bool) → cond test [] [] ≡ ([] : List Record)
-neither true = refl
-neither false = refl
+neither : (test : Bool) (none : List Record) → cond test none none ≡ none
+neither true none = refl
+neither false none = refl
 
 module _ (machine : Host) (endpoint : EndpointValue) where
   abbrev v6 : Bool
@@ -126,7 +126,7 @@ module _ (machine : Host) (endpoint : EndpointValue) where
   nothing-said : (group : Ip) → is_group_of v6 group ≡ true → (change : Change) → concerns_family v6 change ≡ false → records_at (in_group endpoint group) change ≡ []
   nothing-said group own (Reported other records at) none =
       ap (λ (said : List Record). cond (same_endpoint endpoint other) (reverse said) []) (unnamed-none v6 group records own none)
-      ∙ neither (same_endpoint endpoint other)
+      ∙ neither (same_endpoint endpoint other) []
   nothing-said group own (Clear other at) none = absurd cc
   nothing-said group own (Mark at) none = refl
 
