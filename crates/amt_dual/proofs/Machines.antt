@@ -1,5 +1,5 @@
 -- The machines of dual gateways: each can be added to the relay, and no two have one peer and one family.
-use Rattle.std.proofs.{Common.{◌≡◌, ◌≢◌, ℕ, suc, ◌&&◌, Bool, true, false, List, [], ◌∷◌, map, flat_map, filter, length, All, AllPairs, Contains, refl, sym, ap, subst, ◌∙◌, arith}, lemmas.{Bool.{and_from, and_parts}, List.{get_or-map, length-map, Elements.{All-cons, All-head, All-nil, All-tail, All-weaker}, Kept.{AllPairs-cons}}}}
+use Rattle.std.proofs.{Common.{◌≡◌, ◌≢◌, ℕ, suc, ◌&&◌, Bool, true, false, List, [], ◌∷◌, map, flat_map, filter, get_or, length, All, AllPairs, Contains, refl, sym, ap, subst, ◌∙◌, arith}, lemmas.{Bool.{and_from, and_parts}, List.{get_or-map, length-map, Elements.{All-cons, All-head, All-nil, All-tail, All-weaker}, Kept.{AllPairs-cons}}}}
 use Rattle.amt_values.specs.declared.peer.Peer.{Peer}
 use Rattle.group_records.specs.Written.{is_of_family}
 use Rattle.socket_merge.specs.FullReport.{family_by}
@@ -8,8 +8,15 @@ use Rattle.relay_machine.specs.declared.settings.Settings.{Settings}
 use Rattle.source_filter.specs.Filter.{FilterValue}
 use Rattle.amt_pair.specs.{Schedule.{Member}, Setup.{Host, IsHost}}
 use Rattle.amt_pair.proofs.{Alone.{PassesOnce, alone}, HeardQueries.{same_peer-is, same_peer-itself}, HostsApart.{apart_back}, MembersAt.{host_at}, PeerReports.{is_own_member}}
-use Rattle.amt_dual.specs.{Answers.{is_machine}, Schedule.{at_first}, Setup.{DualHost, IsDualHost, machine_of, machines_of}}
+use Rattle.amt_dual.specs.{Answers.{is_machine}, Schedule.{at_first}, Setup.{DualHost, IsDualHost, machine_of, machines_of}, Twins.{peer_and_family}}
 use Rattle.amt_dual.proofs.{DualCourses.{start_machines}, MachineSights.{is_machine-is, is_machine-itself, sight_of}}
+
+-- the machines differ in their peers or their families
+abbrev pub AreOther : Host → Host → Type 0
+AreOther one other = peer_and_family one ≢ peer_and_family other
+
+other-peer : (one other : Host) (peer later : Peer) → one.peer ≡ peer → other.peer ≡ later → peer ≢ later → AreOther one other
+other-peer one other peer later here there apart = λ same. apart (sym here ∙ ap (λ (key : Peer × Bool). key.0) same ∙ there)
 
 -- ---- what holds of both machines of each gateway
 
@@ -33,9 +40,6 @@ module _ (settings : Settings) where
 
   -- ---- no two machines have one peer and one family
 
-  abbrev AreOther : Host → Host → Type 0
-  AreOther one other = (one.peer , one.settings.v6) ≢ (other.peer , other.settings.v6)
-
   pub machines-apart : (hosts : List DualHost) → AllPairs (λ one other. one.peer ≢ other.peer) hosts → AllPairs AreOther (flat_map (machines_of settings) hosts)
   machines-apart [] apart = λ i j d low within. absurd (omega arith)
   machines-apart (host ∷ more) apart =
@@ -44,9 +48,9 @@ module _ (settings : Settings) where
       let rest = flat_map (machines_of settings) more in
       let away : (machine : Host) → machine.peer ≡ host.peer → All (AreOther machine) rest = λ machine is.
       each-machine (AreOther machine) more (λ k d below.
-      let head : host.peer ≢ _ = apart 0 (suc k) d (omega arith) (omega arith) in
-      let other = λ same. head (sym is ∙ ap (λ (key : Peer × Bool). key.0) same) in
-      (other, other)) in
+      let other = apart 0 (suc k) d (omega arith) (omega arith) in
+      (other-peer machine (machine_of settings false (get_or more k d)) host.peer (get_or more k d).peer is refl other,
+      other-peer machine (machine_of settings true (get_or more k d)) host.peer (get_or more k d).peer is refl other)) in
       AllPairs-cons AreOther v4 (v6 ∷ rest) (All-cons (AreOther v4) v6 rest (λ same. let families : false ≡ true = ap (λ (key : Peer × Bool). key.1) same in absurd cc) (away v4 refl))
       (AllPairs-cons AreOther v6 rest (away v6 refl)
       (machines-apart more (λ i j d low within. apart (suc i) (suc j) d (omega arith) (omega arith))))
@@ -61,13 +65,13 @@ machine-own machine =
 
 -- another that it takes for its own has its peer and its family
 machine-key : (machine other : Host) → (same_peer machine.peer other.peer && is_machine machine.settings.v6 other.settings.v6) ≡ true
-    → (machine.peer , machine.settings.v6) ≡ (other.peer , other.settings.v6)
+    → peer_and_family machine ≡ peer_and_family other
 machine-key machine other own =
     let parts = and_parts (same_peer machine.peer other.peer) (is_machine machine.settings.v6 other.settings.v6) own in
     λ i. (same_peer-is machine.peer other.peer parts.0 i , is_machine-is machine.settings.v6 other.settings.v6 parts.1 i)
 
 -- so before any event it is alone
-pub alone-first : (hosts : List Host) (machine : Host) → AllPairs (λ one other. (one.peer , one.settings.v6) ≢ (other.peer , other.settings.v6)) hosts → Contains hosts machine
+pub alone-first : (hosts : List Host) (machine : Host) → AllPairs AreOther hosts → Contains hosts machine
     → filter (is_own_member (sight_of machine)) (map at_first hosts) ≡ at_first machine ∷ []
 alone-first hosts machine apart among =
     let first = map at_first hosts in
@@ -76,9 +80,9 @@ alone-first hosts machine apart among =
   where
     once : PassesOnce (is_own_member (sight_of machine)) (map at_first hosts)
     once i j d low high one other =
-        apart_back host_at (λ one other. (one.peer , one.settings.v6) ≢ (other.peer , other.settings.v6)) (map at_first hosts)
-        (subst (AllPairs (λ one other. (one.peer , one.settings.v6) ≢ (other.peer , other.settings.v6))) (sym (start_machines hosts)) apart) i j d low high
-        (sym (machine-key machine _ one) ∙ machine-key machine _ other)
+        apart_back host_at AreOther (map at_first hosts)
+        (subst (AllPairs AreOther) (sym (start_machines hosts)) apart) i j d low high
+        (sym (machine-key machine (get_or (map at_first hosts) i d).host one) ∙ machine-key machine (get_or (map at_first hosts) j d).host other)
 
 -- ---- events of a family
 
