@@ -1,5 +1,5 @@
 -- A course as it is seen of one machine of a dual gateway: its own datagrams, and of the accepted log what is of its family.
-use Rattle.std.{proofs.{Common.{◌≡◌, ℕ, ◌⊎◌, ◌&&◌, Bool, true, false, cond, if◌then◌else◌, List, [], ◌∷◌, reverse, All, Option, Some, None, refl, sym, ap, subst, ◌∙◌, inl, inr}, lemmas.{Bool.{and_cases, and_parts, and_right, cases_Bool, cond-false, cond-true, false_from_ne_true, or_parts, true≢false}, List.{Elements.{All-filter, All-head, filter_agree}, Folds.{list_any_none}}, Map.Views.{tells_apart}}}, specs.List.{filter}}
+use Rattle.std.proofs.{Common.{◌≡◌, ℕ, ◌⊎◌, ◌&&◌, Bool, true, false, cond, if◌then◌else◌, List, [], ◌∷◌, reverse, All, Option, Some, None, refl, sym, ap, subst, ◌∙◌, inl, inr}, lemmas.{Bool.{and_cases, and_parts, and_right, cases_Bool, cond-false, cond-true, false_from_ne_true, or_parts, true≢false}, List.{Elements.{All-filter, All-head, filter_agree}, Folds.{list_any_none}}, Map.Views.{tells_apart}}}
 use Rattle.amt_values.{specs.{EndpointValue.{EndpointValue}, Group.{is_forwardable}, declared.address.Ip.{Ip, TheVariants.{V4, V6}}}, proofs.Orders.{ip_order-exact}}
 use Rattle.source_filter.specs.declared.record.Record.{Record}
 use Rattle.endpoint_membership.specs.{EndpointGroup.{same_endpoint, same_group}, Log.{brought, on_group, records_at}, declared.change.Change.{Change, TheVariants.{Clear, Mark, Reported}}}
