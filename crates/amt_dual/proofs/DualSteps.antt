@@ -6,7 +6,7 @@ use Rattle.relay_machine.specs.{Accepted.{accepted_log}, Events.{now_of}, Settin
 use Rattle.amt_pair.specs.{Schedule.{Course, Member, Upward, has_name, numbered}, Setup.{Host, IsHost, PairSetup}}
 use Rattle.amt_pair.proofs.{CourseSteps.{stands-call, stands-down, stands-moment, stands-packet, stands-secret, stands-up}, Courses.{changes_of, now_of-nil}, Follows.{Stands, member_of}, GatewaySteps.{run-start}, Listed.{contains-host, numbered-among}, RelaySteps.{none-down}, Sights.{Sight}, Upwards.{IsHosted, IsUpward}}
 use Rattle.amt_dual.specs.{Agreement.{IsMachineInTime, is_of_machine}, Answers.{is_machine}, Schedule.{IsDualPairEvent, MayTake, down_taken, dual_course_of, is_called, takes_delivery, with_dual_pair_event}, Setup.{DualSetup, IsLawfulDualSetup, first_of, machines_in}, declared.event.DualPairEvent.{DualPairEvent, TheVariants.{Down, Moment, Packet, Rotate, Socket, Up}}}
-use Rattle.amt_dual.proofs.{DualCourses.{course_machines, dual-logged-after, dual_course_of-more, dual_course_of-none}, MachineSights.{is_machine-is, sight-at, sight_of}, Machines.{alone-first, event-of, machine-own, machines-apart, machines-lawful}}
+use Rattle.amt_dual.proofs.{DualCourses.{course_machines, dual-logged-after, dual_course_of-more, dual_course_of-none}, MachineSights.{sight-at, sight_of}, Machines.{alone-first, event-of, machine-own, machines-apart, machines-lawful}, TwinPlaces.{machine-is}}
 
 -- each machine of a course is one of the setup
 pub listed : (setup : DualSetup) (schedule : List DualPairEvent) (machine : Member) → Contains (dual_course_of setup schedule).members machine
@@ -51,7 +51,7 @@ module _ (setup : DualSetup) (lawful : IsLawfulDualSetup setup) (machine : Host)
         stands-call sight pair lawful.settings lawful.queries machine first host_is endpoint own (sight-at machine endpoint) InTime course hosts logged stands event (is_called name v6) call.0
         (λ reached.
         let family = (and_parts (has_name name (member_of machine first stands.events)) (is_machine v6 machine.settings.v6) reached).1 in
-        record { is = may.fits; may_come = may-call pair.hosts machine name v6 event (is_machine-is v6 machine.settings.v6 family) call.1 })
+        record { is = may.fits; may_come = may-call pair.hosts machine name v6 event (machine-is v6 machine.settings.v6 family) call.1 })
 
     -- each event of a schedule
     stands-event : (event : DualPairEvent) → IsDualPairEvent pair.hosts event

@@ -7,19 +7,9 @@ use Rattle.gateway_machine.specs.{Answers.{same_peer}, Laws.{last_of}}
 use Rattle.relay_machine.specs.Updates.{forwardable_records}
 use Rattle.amt_pair.specs.{Entries.{is_change_of}, Schedule.{Entry, Upward}, Sent.{SentReport, report_of}, Setup.{Host}}
 use Rattle.amt_pair.proofs.{HeardQueries.{same_peer-is, same_peer-itself}, RelayEntries.{IsSightAt}, Sights.{ShowsGroup, Sight, is_seen_of, report_seen}, ToldReports.{IsLastSeen}, TunnelEntries.{in_group, reported-here}, Upwards.{IsOnFamily, IsUpward}}
-use Rattle.amt_dual.specs.{Agreement.{IsLastOfFamily, is_of_family_at, is_of_machine}, Answers.{is_machine}, Family.{concerns_family, is_group_of, names_family}}
+use Rattle.amt_dual.{specs.{Agreement.{IsLastOfFamily, is_of_family_at, is_of_machine}, Answers.{is_machine}, Family.{concerns_family, is_group_of, names_family}}, proofs.TwinPlaces.{machine-is}}
 
 -- ---- families
-
-pub is_machine-is : (v6 other : Bool) → is_machine v6 other ≡ true → v6 ≡ other
-is_machine-is true true is = refl
-is_machine-is false false is = refl
-is_machine-is true false is = absurd cc
-is_machine-is false true is = absurd cc
-
-pub is_machine-itself : (v6 : Bool) → is_machine v6 v6 ≡ true
-is_machine-itself true = refl
-is_machine-itself false = refl
 
 -- a group is of one family
 other-group : (v6 other : Bool) (group : Ip) → is_machine v6 other ≡ false → is_group_of other group ≡ true → is_group_of v6 group ≡ false
@@ -89,7 +79,7 @@ module _ (machine : Host) (endpoint : EndpointValue) where
       → records_at (in_group endpoint group) (seen_by v6 (Reported endpoint report.records at)) ≡ reverse (on_group group report.records)
   said-own upward report at is_upward found group =
       let own = found-in (is_of_machine machine upward) (report_of upward.sent) report found in
-      let family = is_machine-is v6 upward.v6 (and_parts (same_peer machine.peer upward.from) (is_machine v6 upward.v6) own.0).1 in
+      let family = machine-is v6 upward.v6 (and_parts (same_peer machine.peer upward.from) (is_machine v6 upward.v6) own.0).1 in
       let all : All (IsOnFamily v6) report.records =
       subst (λ (one : Bool). All (IsOnFamily one) report.records) (sym family) (is_upward.family report own.1) in
       let change = Reported endpoint report.records at in

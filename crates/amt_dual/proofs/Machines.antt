@@ -9,7 +9,7 @@ use Rattle.source_filter.specs.Filter.{FilterValue}
 use Rattle.amt_pair.specs.Setup.{Host, IsHost}
 use Rattle.amt_pair.proofs.{Alone.{PassesOnce, alone}, HeardQueries.{same_peer-is, same_peer-itself}, HostsApart.{apart_back}, MembersAt.{host_at}, PeerReports.{is_own_member}}
 use Rattle.amt_dual.specs.{Answers.{is_machine}, Schedule.{at_first}, Setup.{DualHost, IsDualHost, machine_of, machines_of}, Twins.{peer_and_family}}
-use Rattle.amt_dual.proofs.{DualCourses.{start_machines}, MachineSights.{is_machine-is, is_machine-itself, sight_of}}
+use Rattle.amt_dual.proofs.{DualCourses.{start_machines}, MachineSights.{sight_of}, TwinPlaces.{machine-is, machine-itself}}
 
 -- the machines differ in their peers or their families
 abbrev pub AreOther : Host → Host → Type 0
@@ -61,14 +61,14 @@ module _ (settings : Settings) where
 pub machine-own : (machine : Host) → (same_peer machine.peer machine.peer && is_machine machine.settings.v6 machine.settings.v6) ≡ true
 machine-own machine =
     and_from (same_peer machine.peer machine.peer) (is_machine machine.settings.v6 machine.settings.v6) (same_peer-itself machine.peer)
-    (is_machine-itself machine.settings.v6)
+    (machine-itself machine.settings.v6)
 
 -- another that it takes for its own has its peer and its family
 machine-key : (machine other : Host) → (same_peer machine.peer other.peer && is_machine machine.settings.v6 other.settings.v6) ≡ true
     → peer_and_family machine ≡ peer_and_family other
 machine-key machine other own =
     let parts = and_parts (same_peer machine.peer other.peer) (is_machine machine.settings.v6 other.settings.v6) own in
-    λ i. (same_peer-is machine.peer other.peer parts.0 i , is_machine-is machine.settings.v6 other.settings.v6 parts.1 i)
+    λ i. (same_peer-is machine.peer other.peer parts.0 i , machine-is machine.settings.v6 other.settings.v6 parts.1 i)
 
 -- so before any event it is alone
 pub alone-first : (hosts : List Host) (machine : Host) → AllPairs AreOther hosts → Contains hosts machine
