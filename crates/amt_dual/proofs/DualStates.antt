@@ -1,13 +1,13 @@
 -- What a pair with dual gateways stands for: after a step of the relay, of one machine, or of all; and with one more gateway.
-use Rattle.std.{proofs.{Props.{props}, Common.{◌≡◌, ◌≢◌, ◌<◌, ◌||◌, ◌&&◌, not, ℕ, zero, suc, HoldsAt, Bool, true, false, List, [], ◌∷◌, ◌++◌, map, flat_map, filter, take, get_or, length, All, Contains, Option, Some, None, refl, sym, ap, ◌∙◌, subst, arith, OnOk, OnErr, Result, Ok, Err}, lemmas.{Bool.{and_from, and_parts, or_parts}, Grind.{flat_map-append}, List.{map-append, get_or-map, length-map, Elements.{All-cons, All-nil, All-push}, Quantifiers.{all_pairs_push}}}}, specs.Cmp.{nat_eq_equiv, Lexicographic.{lists_equiv, same_text}}}
+use Rattle.std.{proofs.{Props.{props}, Common.{◌≡◌, ◌≢◌, ◌<◌, ◌||◌, ◌&&◌, not, ℕ, zero, suc, HoldsAt, Bool, true, false, List, [], ◌∷◌, ◌++◌, map, flat_map, filter, take, get_or, length, All, Contains, Option, Some, None, refl, sym, ap, ◌∙◌, subst, arith, OnOk, OnErr, Result, Ok, Err}, lemmas.{Bool.{and_from, and_parts, or_parts}, Grind.{flat_map-append}, List.{map-append, get_or-map, length-map, Elements.{All-cons, All-head, All-nil, All-tail}, Quantifiers.{all_pairs_push}}}}, specs.Cmp.{nat_eq_equiv, Lexicographic.{lists_equiv, same_text}}}
 use mathlib.Core.HLevel.{is_prop→PathP}
 use Rattle.amt_values.specs.declared.peer.Peer.{Peer}
 use Rattle.gateway_machine.specs.{Answers.{same_peer}, Events.{IsEventOf}, Runs.{settings_of}, declared.{event.GatewayEvent.{GatewayEvent}, outcome.GatewayOutcome.{GatewayOutcome, TheVariants.{Ignored}}}, Outcomes.{IsRefused}}
 use Rattle.relay_machine.specs.{Accepted.{change_of}, Answers.{outcome_of, sends_of}, declared.{event.Event.{Event}, relay.Relay.{Relay as RelayValue}, sends.{OneSend.{OneSend}, Step.{Step}}, settings.Settings.{Settings}}}
 use Rattle.socket_merge.specs.History.{same_name}
-use Rattle.amt_pair.specs.{Members.{AreMembersAt, AreShort, AreShortSends, host_of}, OwnEndpoints.{HasOwnEndpoint}, Parts.{gateway_part, gateway_parts, gateway_step, relay_step}, Schedule.{Course, Member, answer_at}, Setup.{Host, PairSetup, has_taken, relay_peer}, State.{with_member_at}, declared.{datagrams.UpDatagram.{UpDatagram}, gateways.NamedGateway.{NamedGateway}}}
+use Rattle.amt_pair.specs.{Members.{AreMembersAt, AreShort, AreShortSends, host_of}, OwnEndpoints.{HasOwnEndpoint}, Parts.{gateway_part, gateway_parts, gateway_step, relay_step}, Schedule.{Course, Member, answer_at}, Setup.{Host, PairSetup, has_taken, relay_peer}, State.{with_member_at}, declared.{datagrams.UpDatagram.{UpDatagram}, gateways.NamedGateway.{NamedGateway}, step.Part.{Part}}}
 use Rattle.amt_pair.proofs.{Alone.{PassesOnce}, HeardQueries.{same_peer-itself}, MembersAt.{are_at, host_at, host_is, hosts_are, lengths_are}}
-use Rattle.amt_dual.specs.{Answers.{is_ignored, is_machine}, InTurn.{part_of, parts_in_turn}, Parts.{machine_part, machine_parts}, Schedule.{IsDualPairEvent, at_first, dual_course_of, dual_pair_start, is_called}, Setup.{AreDualApart, DualHost, DualSetup, IsDualHost, IsLawfulDualSetup, machine_of, machines_in, machines_of}, State.{DualPairAt, StandsFor, machines}, Twins.{AreMachinesApart, are_of_one, are_twins}}
+use Rattle.amt_dual.specs.{Answers.{is_ignored, is_machine}, InTurn.{is_ignored_part, part_of, parts_in_turn}, Parts.{machine_part, machine_parts}, Schedule.{IsDualPairEvent, at_first, dual_course_of, dual_pair_start, is_called}, Setup.{AreDualApart, DualHost, DualSetup, IsDualHost, IsLawfulDualSetup, machine_of, machines_in, machines_of}, State.{DualPairAt, StandsFor, machines}, Twins.{AreMachinesApart, are_of_one, are_twins}}
 use Rattle.amt_dual.{specs.declared.{event.DualPairEvent.{DualPairEvent}, pair.DualPair.{DualPair}, step.DualPart.{DualPart, TheVariants.{Gateway, Relay}}}, proofs.{DualCourses.{dual_course_of-none, start_machines}, MachineDeliveries.{IsForMachine, for_machine}, TwinPlaces.{IsFree, machine-is, once_called, one-machine, twin-first, twin-second}}}
 
 -- ---- a step
@@ -30,6 +30,11 @@ machine_part_is event v6 member is = λ i. Gateway member.host.name (sym is i) (
 -- the pair that stands for a course stands for an equal one
 pub stands_by : (setup : PairSetup) (before after : Course) (pair : DualPair) → StandsFor pair setup before → before ≡ after → StandsFor pair setup after
 stands_by setup before after pair stands same = subst (StandsFor pair setup) same stands
+
+-- whether the IPv4 machine ignored the event, by its part
+pub ignored_by : (event : GatewayEvent) (part : Part) (member : Member) (answer : Bool) → part ≡ gateway_part event member → answer ≡ is_ignored_part part
+    → answer ≡ is_ignored (answer_at member event).outcome
+ignored_by event part member answer is told = told ∙ ap is_ignored_part is
 
 -- ---- parts in turn
 
@@ -95,10 +100,15 @@ machine_may_come event name v6 gateways place host apart within found contains n
 
 -- ---- one more gateway
 
-pub twins_of : (settings : Settings) (host : DualHost) (v4 v6 : Host) → v4 ∷ v6 ∷ [] ≡ machines_of settings host → are_of_one v4 v6 ≡ true
-twins_of settings host v4 v6 is =
-    subst (λ (both : List Host). are_of_one (get_or both 0 v4) (get_or both 1 v6) ≡ true) (sym is)
-    (and_from (same_name host.name host.name) (same_peer host.peer host.peer) ((lists_equiv nat_eq_equiv).refl host.name) (same_peer-itself host.peer))
+pub twins_of : (settings : Settings) (host : DualHost) → are_of_one (machine_of settings false host) (machine_of settings true host) ≡ true
+twins_of settings host =
+    and_from (same_name host.name host.name) (same_peer host.peer host.peer) ((lists_equiv nat_eq_equiv).refl host.name) (same_peer-itself host.peer)
+
+-- what holds of the machines with those of one more gateway
+pub hosts_more : (Fact : List Host → Type 0) (settings : Settings) (gateways both : List NamedGateway) (host : DualHost) → map host_of both ≡ machines_of settings host
+    → Fact (map host_of gateways ++ machines_of settings host) → Fact (map host_of (gateways ++ both))
+hosts_more Fact settings gateways both host are fact =
+    subst Fact (ap (λ (more : List Host). map host_of gateways ++ more) (sym are) ∙ sym (map-append host_of gateways both)) fact
 
 -- a name and a peer that no machine has are those of no gateway
 abbrev pub IsFreeOf : List ℕ → Peer → DualHost → Type 0
@@ -107,9 +117,12 @@ IsFreeOf name peer host = (host.name ≢ name) × (host.peer ≢ peer)
 pub gateways_free : (settings : Settings) (name : List ℕ) (peer : Peer) (hosts : List DualHost) → All (IsFree name peer) (flat_map (machines_of settings) hosts) → All (IsFreeOf name peer) hosts
 gateways_free settings name peer [] free = All-nil (IsFreeOf name peer)
 gateways_free settings name peer (host ∷ hosts) free =
-    let first = free 0 (machine_of settings false host) (omega arith) in
+    let v4 = machine_of settings false host in
+    let v6 = machine_of settings true host in
+    let rest = flat_map (machines_of settings) hosts in
+    let first : IsFree name peer v4 = All-head (IsFree name peer) v4 (v6 ∷ rest) free in
     All-cons (IsFreeOf name peer) host hosts (first.name, first.peer)
-    (gateways_free settings name peer hosts (λ k d below. free (suc (suc k)) d (omega arith)))
+    (gateways_free settings name peer hosts (All-tail (IsFree name peer) v6 rest (All-tail (IsFree name peer) v4 (v6 ∷ rest) free)))
 
 pub dual_apart_more : (hosts : List DualHost) (host : DualHost) → AreDualApart hosts → All (IsFreeOf host.name host.peer) hosts → AreDualApart (hosts ++ host ∷ [])
 dual_apart_more hosts host apart free = record {

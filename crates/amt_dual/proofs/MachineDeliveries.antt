@@ -1,11 +1,11 @@
 -- An event that comes to one machine, to both machines of a gateway, or to none.
-use Rattle.std.proofs.{Common.{◌≡◌, ◌<◌, ℕ, suc, ◌+◌, ◌&&◌, not, Bool, true, false, List, [], ◌∷◌, ◌++◌, map, length, get_or, set, filter, flat_map, All, if◌then◌else◌, sym, ap, ◌∙◌, arith, append-nil, append_assoc, true≢false, inl, inr}, lemmas.{Bool.{and_from, and_parts, cases_Bool, cond-false, cond-true, false_from_ne_true, not-true, not_from_false}, List.{get_or_default, Folds.{list_any_at, list_any_none}}}}
-use Rattle.std.specs.List.{list_any}
+use Rattle.std.proofs.{Common.{◌≡◌, ◌<◌, ℕ, suc, ◌+◌, ◌&&◌, not, Bool, true, false, List, [], ◌∷◌, ◌++◌, map, length, get_or, set, filter, flat_map, All, HoldsAt, Option, Some, if◌then◌else◌, refl, sym, ap, subst, ◌∙◌, arith, append-nil, append_assoc, true≢false, inl, inr}, lemmas.{Bool.{and_from, and_left, and_parts, cases_Bool, cond-false, cond-true, false_from_ne_true, not-true, not_from_false}, List.{get_or_default, Folds.{list_any_at, list_any_none}}}}
+use Rattle.std.specs.List.{AllWithin, list_any}
 use Rattle.amt_values.specs.{Endpoint.{endpoint_of}}
 use Rattle.gateway_machine.specs.declared.event.GatewayEvent.{GatewayEvent}
 use Rattle.relay_machine.specs.declared.sends.OneSend.{OneSend}
-use Rattle.amt_pair.{specs.{OwnEndpoints.{HasOwnEndpoint}, Schedule.{Course, Member, Upward, answer_at, delivery_down, is_at, is_endpoint, upwards_on, with_gateway_event, with_member_event}, Setup.{PairSetup}, State.{with_member_at}}, proofs.{Alone.{NonePasses, PassesOnce, alone, filter_none}, Deliveries.{none_reached}, MembersAt.{host_at}}}
-use Rattle.amt_dual.{specs.{Answers.{is_ignored, is_machine}, Parts.{machine_part, machine_parts}, Schedule.{ignores, takes_delivery}, State.{twin_parts, with_twins_at}, Twins.{AreMachinesApart}, declared.step.DualPart.{DualPart}}, proofs.{SideBySide.{OnlyThere, same_place, side_by_side}, TwinPlaces.{AreMachinesAt, is_there, machine-itself, once_there, twin-first, twin-second}}}
+use Rattle.amt_pair.{specs.{Members.{AreMembersAt, host_of}, OwnEndpoints.{HasOwnEndpoint}, Schedule.{Course, Member, Upward, answer_at, delivery_down, is_at, is_endpoint, numbered, upwards_on, with_gateway_event, with_member_event}, Setup.{Host, PairSetup}, State.{with_member_at}, declared.gateways.NamedGateway.{NamedGateway}}, proofs.{Alone.{NonePasses, PassesOnce, alone, filter_none}, Deliveries.{none_reached}, MembersAt.{host_at, hosts_are}}}
+use Rattle.amt_dual.{specs.{Answers.{is_ignored, is_machine}, Parts.{down_parts, dual_parts_of, machine_part, machine_parts, or_absent}, Schedule.{down_taken, ignores, takes_delivery, with_dual_pair_event}, State.{twin_parts, with_twins_at}, Twins.{AreMachinesApart, are_twins}, declared.{event.DualPairEvent.TheVariants.{Down}, step.DualPart.{DualPart}}}, proofs.{SideBySide.{OnlyThere, same_place, side_by_side}, TwinPlaces.{AreMachinesAt, endpoints_alike, first_twins, is_there, machines_at, once_there, twin-first, twin-second}}}
 
 module _ (event : GatewayEvent) (reaches : Member → Bool) (course : Course) where
   -- the course with these machines, and with what these of them send
@@ -123,9 +123,12 @@ module _ (setup : PairSetup) (course : Course) (send : OneSend) (place : ℕ) (a
       let kind : Bool = (get_or course.members k d).host.settings.v6 in
       let both = and_parts (is_at send.to (get_or course.members k d)) (if kind then is_left else true) is in
       elim (cases_Bool kind) [
-        | inl yes ↦ not_next (at_second_place k d below (and_from (is_at send.to (get_or course.members k d)) kind both.0 yes))
-        | inr no ↦ not_here (at_first_place k d below (and_from (is_at send.to (get_or course.members k d)) (not kind) both.0 (not_from_false kind no)))
+        | inl second ↦ not_next (at_second_place k d below (and_from (is_at send.to (get_or course.members k d)) kind both.0 second))
+        | inr first ↦ not_here (at_first_place k d below (and_from (is_at send.to (get_or course.members k d)) (not kind) both.0 (not_from_false kind first)))
       ])
+
+  one_more : suc place ≡ place + 1
+  one_more = omega arith
 
   pub delivered : AreDelivered setup course send place at.v4 at.v6
   delivered = elim (cases_Bool (is_ignored (answer_at at.v4 delivery).outcome)) [
@@ -136,6 +139,7 @@ module _ (setup : PairSetup) (course : Course) (send : OneSend) (place : ℕ) (a
         let both = for_both delivery takes course place at.v4 at.v6 take_both at.within at.here at.next first_takes second in
         record {
           reached = both.reached
+              ∙ ap (λ (next : ℕ). with_member_at (with_member_at course delivery place at.v4) delivery next at.v6) one_more
               ∙ sym (cond-true (is_ignored (answer_at at.v4 delivery).outcome) (with_member_at (with_member_at course delivery place at.v4) delivery (place + 1) at.v6) (with_member_at course delivery place at.v4) ignored);
           parts = both.parts
               ∙ sym (cond-true (is_ignored (answer_at at.v4 delivery).outcome) (machine_part delivery at.v4 ∷ machine_part delivery at.v6 ∷ []) (machine_part delivery at.v4 ∷ []) ignored);
@@ -149,3 +153,61 @@ module _ (setup : PairSetup) (course : Course) (send : OneSend) (place : ℕ) (a
               ∙ sym (cond-false (is_ignored (answer_at at.v4 delivery).outcome) (machine_part delivery at.v4 ∷ machine_part delivery at.v6 ∷ []) (machine_part delivery at.v4 ∷ []) taken);
         }
   ]
+
+-- where the gateways are
+pub record AreReached (setup : PairSetup) (course : Course) (send : OneSend) (place : ℕ) : Type 0 where
+  pub at : AreMachinesAt (λ host. is_endpoint send.to (endpoint_of host.peer)) course.members place
+  one_more : suc place ≡ place + 1
+  one_more = omega arith
+
+  pub next : get_or course.members (place + 1) at.v6 ≡ at.v6
+  pub delivered : AreDelivered setup course send place at.v4 at.v6
+  pub some : (number : ℕ) → or_absent number (twin_parts (delivery_down setup send) at.v4 at.v6) ≡ twin_parts (delivery_down setup send) at.v4 at.v6
+
+some-part : (number : ℕ) (both : Bool) (one : DualPart) (other : List DualPart) → or_absent number (if both then one ∷ other else one ∷ []) ≡ (if both then one ∷ other else one ∷ [])
+some-part number true one other = refl
+some-part number false one other = refl
+
+pub reached_at : (setup : PairSetup) (course : Course) (send : OneSend) (gateways : List NamedGateway) (place : ℕ) → AreMembersAt gateways course.members → are_twins (map host_of gateways) ≡ true
+    → AreMachinesApart (map host_of gateways) → All (λ host. HasOwnEndpoint host.peer) (map host_of gateways) → place < length gateways
+    → HoldsAt (λ one. is_endpoint send.to (endpoint_of one.peer) ≡ true) gateways place → AllWithin (λ one. is_endpoint send.to (endpoint_of one.peer) ≡ false) gateways 0 place
+    → AreReached setup course send place
+reached_at setup course send gateways place are twins apart own within found first =
+    let test : Host → Bool = λ host. is_endpoint send.to (endpoint_of host.peer) in
+    let same = hosts_are gateways course.members are in
+    let at = machines_at test (endpoints_alike send.to) gateways course.members place are (first_twins test (endpoints_alike send.to) gateways place twins within found first) found in
+    let event = delivery_down setup send in
+    let one_more : place + 1 ≡ suc place = omega arith in
+    record {
+      at = at;
+      next = ap (λ (k : ℕ). get_or course.members k at.v6) one_more ∙ at.next;
+      delivered = delivered setup course send place at (subst AreMachinesApart same apart) (subst (All (λ host. HasOwnEndpoint host.peer)) same own);
+      some = λ number. some-part number (is_ignored (answer_at at.v4 event).outcome) (machine_part event at.v4) (machine_part event at.v6 ∷ []);
+    }
+
+-- no gateway is there
+pub record IsDeliveredToNone (setup : PairSetup) (course : Course) (send : OneSend) : Type 0 where
+  pub reached : with_member_event (delivery_down setup send) (takes_delivery setup course.members send) course ≡ course
+  pub parts : machine_parts (delivery_down setup send) (filter (takes_delivery setup course.members send) course.members) ≡ []
+
+pub none_delivered : (setup : PairSetup) (course : Course) (send : OneSend) → NonePasses (is_at send.to) course.members → IsDeliveredToNone setup course send
+none_delivered setup course send none =
+    let takes = takes_delivery setup course.members send in
+    let no : NonePasses takes course.members =
+    λ k d below. not_there (get_or course.members k d) (none k d below) in
+    record { reached = none_reached (delivery_down setup send) takes course no; parts = no_machine_part (delivery_down setup send) takes course no }
+  where
+    not_there : (member : Member) → is_at send.to member ≡ false → takes_delivery setup course.members send member ≡ false
+    not_there member away =
+        and_left (is_at send.to member) (if member.host.settings.v6 then list_any (ignores send.to (delivery_down setup send)) course.members else true) away
+
+-- the delivery of a number
+module _ (setup : PairSetup) (course : Course) (number : ℕ) where
+  pub dual_down_parts : (send : OneSend) (parts : List DualPart) → numbered course.down number ≡ Some send
+      → machine_parts (delivery_down setup send) (filter (takes_delivery setup course.members send) course.members) ≡ parts → or_absent number parts ≡ dual_parts_of setup course (Down number)
+  dual_down_parts send parts found are =
+      ap (or_absent number) (sym are) ∙ ap (λ (one : Option OneSend). or_absent number (down_parts setup course one)) (sym found)
+
+  pub dual_down_reaches : (send : OneSend) (after : Course) → numbered course.down number ≡ Some send
+      → with_member_event (delivery_down setup send) (takes_delivery setup course.members send) course ≡ after → after ≡ with_dual_pair_event setup course (Down number)
+  dual_down_reaches send after found is = sym is ∙ ap (λ (one : Option OneSend). down_taken setup one course) (sym found)

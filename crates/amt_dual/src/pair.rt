@@ -115,7 +115,7 @@ impl DualPair {
         ensures same { OnErr result (self.new ≡ self.old) }
     {
         peer_fits(&peer);
-        if self.gateways.has_taken(name, &peer) {
+        if self.is_taken(name, &peer) {
             return Err(DualFault::Taken);
         }
         let Ok(both) = machines_of(alloc, &self.peer, name, &peer, source4, source6) else {
@@ -125,6 +125,12 @@ impl DualPair {
             Ok(()) => Ok(()),
             Err(_) => Err(DualFault::Memory),
         }
+    }
+
+    fn is_taken(&self, name: &[u8], peer: &Peer) -> bool
+        ensures { result ≡ has_taken name.now peer.now (machines self.now) }
+    {
+        self.gateways.has_taken(name, peer)
     }
 
     /// The memberships at the relay, by tunnel endpoint and then by group.

@@ -4,17 +4,17 @@ use Rattle.amt_dual.{specs.{InTurn.{part_of}, declared.step.DualPart.{DualPart}}
 use Rattle.amt_dual.proofs.pair.DualPair.take_call.Goals as goal
 
 pub place_of-place-requires : goal.place_of-place-requires
-place_of-place-requires c = (c.requires.1, c.requires.2, c.requires.3)
+place_of-place-requires c = (c.requires.1.0, c.requires.1.1, c.requires.1.2)
 
 pub take_at-requires-clause-event : goal.take_at-requires-clause-event
 take_at-requires-clause-event c =
-    machine_may_come c.args.event.now c.args.name.now c.args.v6 c.args.self.now.gateways c.place_of.result c.requires.1 c.args.self.now.apart
-    c.place_of.ensures.within c.place_of.ensures.found c.requires.2 c.requires.3 c.requires.4 c.requires.5
+    machine_may_come c.args.event.now c.args.name.now c.args.v6 c.args.self.now.gateways c.place_of-place.result c.requires.1.0 c.args.self.now.apart
+    c.place_of-place.ensures.within c.place_of-place.ensures.found c.requires.1.1 c.requires.1.2 c.requires.1.3 c.requires.1.4
 
 pub returns-clause-parts : goal.returns-clause-parts
 returns-clause-parts c = λ setup course stands.
     let event = c.args.event.now in
-    let called = called_one event c.args.name.now c.args.v6 c.args.self.now.gateways course c.place_of.result stands.gateways c.place_of.ensures.within c.args.self.now.apart c.place_of.ensures.found in
+    let called = called_one event c.args.name.now c.args.v6 c.args.self.now.gateways course c.place_of-place.result stands.gateways c.place_of-place.ensures.within c.args.self.now.apart c.place_of-place.ensures.found in
     let part : c.part_of.result ≡ _ =
     c.part_of.ensures ∙ ap (part_of c.args.v6) (c.in_ok-part.ensures.part course.members called.member stands.gateways called.here) ∙ machine_part_is event c.args.v6 called.member called.family in
     c.step_of.ensures.parts ∙ c.push_reserved.ensures.items ∙ (λ i. c.in_ok-parts.ensures.items i ++ part i ∷ []) ∙ sym called.one.part
@@ -22,8 +22,8 @@ returns-clause-parts c = λ setup course stands.
 pub returns-clause-next : goal.returns-clause-next
 returns-clause-next c = λ setup course stands.
     let event = c.args.event.now in
-    let called = called_one event c.args.name.now c.args.v6 c.args.self.now.gateways course c.place_of.result stands.gateways c.place_of.ensures.within c.args.self.now.apart c.place_of.ensures.found in
-    stands_by setup (with_member_at course event c.place_of.result called.member) _ _ (record {
+    let called = called_one event c.args.name.now c.args.v6 c.args.self.now.gateways course c.place_of-place.result stands.gateways c.place_of-place.ensures.within c.args.self.now.apart c.place_of-place.ensures.found in
+    stands_by setup (with_member_at course event c.place_of-place.result called.member) _ _ (record {
       relay = stands.relay;
       gateways = c.in_ok-part.ensures.next course.members called.member stands.gateways called.here;
       up = up_more c.args.self.now.up c.take_at.new.up course.up (upwards_on event called.member) stands.up (c.in_ok-part.ensures.sent course.members called.member stands.gateways called.here);
