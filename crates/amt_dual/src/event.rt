@@ -25,7 +25,9 @@ pub enum DualPairEvent {
     /// The relay has a new private secret (RFC 7450, section 5.3.6).
     Rotate(Secret),
     /// A native multicast packet has come to the relay: at most 65,535 octets.
-    Packet { bytes: Bytes },
+    Packet {
+        bytes: Bytes,
+    },
     /// The machine of this family takes a socket call, of the gateway of this name.
     Socket {
         name: Bytes,
