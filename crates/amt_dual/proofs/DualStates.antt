@@ -176,6 +176,11 @@ pub after_append : {E : Type 0} (Fact : List NamedGateway → Type 0) (result : 
 after_append Fact (Ok done) old after more ok err before now = subst Fact (sym ok) now
 after_append Fact (Err fault) old after more ok err before now = subst Fact (sym err) before
 
+-- what is as it was on an error is so too of the same
+pub on_err_also : {T E A : Type 0} (result : Result T E) (new same old : A) → same ≡ old → OnErr result (new ≡ same) → OnErr result (new ≡ old)
+on_err_also (Ok value) new same old is err = tt
+on_err_also (Err fault) new same old is err = err ∙ is
+
 -- ---- what else a pair holds are proofs
 
 -- a pair with another relay and other gateways and datagrams

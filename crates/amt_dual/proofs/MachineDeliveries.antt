@@ -157,9 +157,6 @@ module _ (setup : PairSetup) (course : Course) (send : OneSend) (place : ℕ) (a
 -- where the gateways are
 pub record AreReached (setup : PairSetup) (course : Course) (send : OneSend) (place : ℕ) : Type 0 where
   pub at : AreMachinesAt (λ host. is_endpoint send.to (endpoint_of host.peer)) course.members place
-  one_more : suc place ≡ place + 1
-  one_more = omega arith
-
   pub next : get_or course.members (place + 1) at.v6 ≡ at.v6
   pub delivered : AreDelivered setup course send place at.v4 at.v6
   pub some : (number : ℕ) → or_absent number (twin_parts (delivery_down setup send) at.v4 at.v6) ≡ twin_parts (delivery_down setup send) at.v4 at.v6

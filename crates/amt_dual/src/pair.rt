@@ -8,10 +8,12 @@ ghost use Rattle.amt_pair.specs.{Setup.{amt_port, relay_peer}, Members.{AreMembe
 ghost use Rattle.amt_dual.specs.{InTurn.{is_ignored_part}, Schedule.{at_first}, Setup.{machines_of}, Twins.{AreMachinesApart, are_twins}};
 
 use crate::event::DualPairEvent;
-use crate::ranges::dual_event_fits;
 use crate::parts::{part_of, push_in_turn};
+use crate::ranges::dual_event_fits;
 use crate::step::{DualPairStep, DualPart, DualParts};
-use amt_pair::{DownDatagrams, Gateways, NamedGateway, Part, UpDatagrams, keep_copies, peer_fits, settings_fit};
+use amt_pair::{
+    DownDatagrams, Gateways, NamedGateway, Part, UpDatagrams, keep_copies, peer_fits, settings_fit,
+};
 use amt_values::{AMT_PORT, Bytes, Endpoint, Ip, Moment, Peer};
 use endpoint_membership::Rows;
 use gateway_machine::{Gateway, GatewayEvent, GatewayOutcome, GatewaySettings};
@@ -21,6 +23,7 @@ use std::alloc::{AllocError, Global};
 
 // The nonces of the first messages: of the IPv4 machine of each gateway, and of the IPv6 one.
 const FIRST_NONCE4: u32 = 1;
+
 const FIRST_NONCE6: u32 = 0x8000_0001;
 
 /// Why a dual gateway was not added.
@@ -157,11 +160,7 @@ impl DualPair {
     /// nothing changes, and the event may be given again. Where it runs out at a later step of a moment, the
     /// answer says so: it holds the parts of the steps before, and the machines from there on have not heard of
     /// the moment.
-    pub fn step(
-        &mut self,
-        alloc: Global,
-        event: &DualPairEvent,
-    ) -> Result<DualPairStep, AllocError>
+    pub fn step(&mut self, alloc: Global, event: &DualPairEvent) -> Result<DualPairStep, AllocError>
         requires { DualMayCome (machines self.old) event.now }
         ensures parts { ForCourse self.old (λ setup course. IfOk result (λ step. step.starved ≡ false
             → step.parts ≡ dual_parts_of setup course event.now)) }
@@ -209,11 +208,7 @@ impl DualPair {
     }
 
     // The relay takes one event, as in a pair: where it sends something, it is as before.
-    fn take_at_relay(
-        &mut self,
-        alloc: Global,
-        event: &Event,
-    ) -> Result<DualPairStep, AllocError>
+    fn take_at_relay(&mut self, alloc: Global, event: &Event) -> Result<DualPairStep, AllocError>
         requires { IsEvent (relay_settings_of self.old.relay) event.now }
         ensures parts { ForCourse self.old (λ setup course. IfOk result (λ step.
             step.parts ≡ RelayPart (relay_step setup course event.now) ∷ [])) }

@@ -1,7 +1,7 @@
-use Rattle.std.proofs.{Common.{◌≡◌, true, false, List, [], ◌∷◌, ◌++◌, All, map, flat_map, sym, ap, ◌∙◌, subst, arith}, lemmas.List.Elements.{All-push}}
-use Rattle.amt_values.{proofs.OnePeer.{peer_again}, specs.EndpointValue.{EndpointValue}}
-use Rattle.amt_pair.specs.{Members.{host_of}, OwnEndpoints.{HasOwnEndpoint}, Setup.{Host, has_taken, relay_peer}, declared.gateways.NamedGateway.{NamedGateway}}
-use Rattle.amt_dual.specs.{Setup.{DualHost, DualSetup, IsDualHost, machine_of, machines_in, machines_of}, State.{StandsFor, machines}, Schedule.{dual_pair_start}, Twins.{AreMachinesApart, are_twins}}
+use Rattle.std.proofs.{Common.{◌≡◌, true, false, [], ◌∷◌, ◌++◌, All, map, sym, ap, ◌∙◌, arith}, lemmas.List.Elements.{All-push}}
+use Rattle.amt_values.{proofs.OnePeer.{peer_again}}
+use Rattle.amt_pair.specs.{Members.{host_of}, OwnEndpoints.{HasOwnEndpoint}, Setup.{Host, has_taken, relay_peer}}
+use Rattle.amt_dual.specs.{Setup.{DualHost, DualSetup, IsDualHost, machine_of, machines_in}, State.{StandsFor, machines}, Schedule.{dual_pair_start}, Twins.{AreMachinesApart, are_twins}}
 use Rattle.amt_dual.proofs.{DualStates.{after_append, dual_apart_more, dual_pair_at_start, gateways_free, hosts_more, machines_at_start, members_more_at_start, stands_at_start, twins_of}, SideBySide.{two_more}, TwinPlaces.{all_free, machines_apart_more, twins_more}}
 use Rattle.amt_dual.proofs.pair.DualPair.add.Goals as goal
 

@@ -1,5 +1,5 @@
-use Rattle.std.proofs.{Common.{◌≡◌, ◌≢◌, ◌+◌, ℕ, false, true, List, [], ◌∷◌, ◌++◌, get_or, set, refl, sym, ap, ◌∙◌, arith}, lemmas.{Bool.{cond-true, not-false}, List.{get_or-set_other}}}
-use Rattle.amt_pair.{specs.{Members.{AreMembersAt}, Parts.{gateway_part}, Schedule.{Course, Member, answer_at, upwards_on, with_gateway_event}, State.{with_member_at}, declared.gateways.NamedGateway.{NamedGateway}}, proofs.PairStates.{on_err_by, up_more}}
+use Rattle.std.proofs.{Common.{◌≡◌, ◌≢◌, ◌+◌, ℕ, false, true, List, [], ◌∷◌, ◌++◌, get_or, set, refl, sym, ap, ◌∙◌, arith}, lemmas.{Bool.{cond-true}, List.{get_or-set_other}}}
+use Rattle.amt_pair.{specs.{Members.{AreMembersAt}, Schedule.{Course, Member, answer_at, upwards_on, with_gateway_event}, State.{with_member_at}}, proofs.PairStates.{on_err_by, up_more}}
 use Rattle.amt_dual.{specs.{Answers.{is_ignored}, InTurn.{part_of}, Parts.{machine_part}, declared.step.DualPart.{DualPart}}, proofs.{DualStates.{ignored_by, machine_part_is, refused-ignored, same_pair, stands_by}, TwinPlaces.{twin-first, twin-second}}}
 use Rattle.amt_dual.proofs.pair.DualPair.deliver_at.Goals as goal
 
@@ -15,7 +15,7 @@ returns-in_err-v6-clause-err c = λ setup course v4 v6 stands here next twins.
     let event = c.args.event.now in
     let part = c.in_ok-v4.ensures.part course.members v4 stands.gateways here in
     let ignored : is_ignored (answer_at v4 event).outcome ≡ true =
-    sym (ignored_by event c.in_ok-v4.v4 v4 c.was_ignored.result part c.was_ignored.ensures) ∙ not-false c.was_ignored.result c.if-not-was_ignored.false in
+    sym (ignored_by event c.in_ok-v4.v4 v4 c.was_ignored.result part c.was_ignored.ensures) ∙ c.if-not-was_ignored.false in
     let same = c.in_ok-v4.ensures.ignored course.members v4 stands.gateways here (refused-ignored (answer_at v4 event).outcome ignored) in
     on_err_by c.from_residual-in_err-v6.result
     (same_pair pair pair.relay c.take_at-2.new.self c.take_at-2.new.up pair.down _ _ _ _ _ _ refl (c.in_err-v6.ensures.same ∙ same.0) (c.in_err-v6.ensures.same_up ∙ same.1) refl)
@@ -25,7 +25,7 @@ returns-clause-parts c = λ setup course v4 v6 stands here next twins.
     let event = c.args.event.now in
     let part = c.in_ok-v4.ensures.part course.members v4 stands.gateways here in
     let ignored : is_ignored (answer_at v4 event).outcome ≡ true =
-    sym (ignored_by event c.in_ok-v4.v4 v4 c.was_ignored.result part c.was_ignored.ensures) ∙ not-false c.was_ignored.result c.if-not-was_ignored.false in
+    sym (ignored_by event c.in_ok-v4.v4 v4 c.was_ignored.result part c.was_ignored.ensures) ∙ c.if-not-was_ignored.false in
     let members : List Member = set course.members c.args.place (with_gateway_event event v4) in
     let now : AreMembersAt c.take_at.new.self members = c.in_ok-v4.ensures.next course.members v4 stands.gateways here in
     let apart : c.next_place-next.result ≢ c.args.place = λ same. omega (arith, c.next_place-next.ensures) in
@@ -48,7 +48,7 @@ returns-clause-next c = λ setup course v4 v6 stands here next twins.
     let place = c.args.place in
     let part = c.in_ok-v4.ensures.part course.members v4 stands.gateways here in
     let ignored : is_ignored (answer_at v4 event).outcome ≡ true =
-    sym (ignored_by event c.in_ok-v4.v4 v4 c.was_ignored.result part c.was_ignored.ensures) ∙ not-false c.was_ignored.result c.if-not-was_ignored.false in
+    sym (ignored_by event c.in_ok-v4.v4 v4 c.was_ignored.result part c.was_ignored.ensures) ∙ c.if-not-was_ignored.false in
     let members : List Member = set course.members place (with_gateway_event event v4) in
     let now : AreMembersAt c.take_at.new.self members = c.in_ok-v4.ensures.next course.members v4 stands.gateways here in
     let apart : c.next_place-next.result ≢ place = λ same. omega (arith, c.next_place-next.ensures) in

@@ -1,10 +1,10 @@
-use Rattle.std.proofs.{Common.{◌≡◌, ◌≤◌, ℕ, List, [], map, length, Some, refl, sym, ap, ◌∙◌, subst, arith}, lemmas.{List.{length-map}, Result.{IfOk-weaker}}}
+use Rattle.std.proofs.{Common.{◌≡◌, ◌≤◌, ℕ, List, [], length, Some, refl, sym, ap, ◌∙◌, subst, arith}, lemmas.{List.{length-map}, Result.{IfOk-weaker}}}
 use Rattle.amt_values.specs.Endpoint.{endpoint_of}
 use Rattle.gateway_machine.specs.declared.event.GatewayEvent.{GatewayEvent}
 use Rattle.relay_machine.specs.declared.sends.OneSend.{OneSend}
 use Rattle.amt_pair.specs.{Members.{host_of}, Schedule.{Course, delivery_down, is_endpoint, numbered}, Setup.{Host, relay_peer}}
 use Rattle.amt_pair.proofs.{Numbers.{all_numbered, is_delivery_down}, MembersAt.{none_at}, PairStates.{if_ok_by}}
-use Rattle.amt_dual.{specs.{Schedule.{with_dual_pair_event}, State.{StandsFor, twin_parts, with_twins_at}, declared.event.DualPairEvent.TheVariants.{Down}}, proofs.{MachineDeliveries.{dual_down_parts, dual_down_reaches, none_delivered, reached_at}, TwinPlaces.{endpoints_alike, first_twins}}}
+use Rattle.amt_dual.{specs.{Schedule.{with_dual_pair_event}, State.{StandsFor, twin_parts, with_twins_at}, declared.event.DualPairEvent.TheVariants.{Down}}, proofs.{DualStates.{on_err_also, same_pair}, MachineDeliveries.{dual_down_parts, dual_down_reaches, none_delivered, reached_at}, TwinPlaces.{endpoints_alike, first_twins}}}
 use Rattle.amt_dual.proofs.pair.DualPair.deliver_down.Goals as goal
 
 pub returns-in_default-place_of_endpoint-clause-parts : goal.returns-in_default-place_of_endpoint-clause-parts
@@ -82,5 +82,6 @@ returns-clause-err c = λ setup course stands.
     let pair = c.args.self.now in
     let place = c.in-Some-place_of_endpoint in
     let are = reached_at setup course c.in-Some.send.now pair.gateways place.place stands.gateways pair.twins pair.apart pair.own_endpoints place.ensures.within place.ensures.found place.ensures.first in
-    c.deliver_at.ensures.err setup course are.at.v4 are.at.v6
-    (record { relay = stands.relay; gateways = stands.gateways; up = stands.up; down = stands.down }) are.at.here are.next are.at.twins
+    on_err_also c.deliver_at.result c.deliver_at.new.self _ pair (same_pair pair pair.relay pair.gateways pair.up pair.down _ _ _ _ _ _ refl refl refl refl)
+    (c.deliver_at.ensures.err setup course are.at.v4 are.at.v6
+    (record { relay = stands.relay; gateways = stands.gateways; up = stands.up; down = stands.down }) are.at.here are.next are.at.twins)
