@@ -8,7 +8,7 @@ use Rattle.socket_merge.specs.History.{same_name}
 use Rattle.amt_pair.specs.{Members.{AreMembersAt, AreShort, AreShortSends, host_of}, OwnEndpoints.{HasOwnEndpoint}, Parts.{gateway_part, gateway_parts, gateway_step, relay_step}, Schedule.{Course, Member, answer_at}, Setup.{Host, PairSetup, has_taken, relay_peer}, State.{with_member_at}, declared.{datagrams.UpDatagram.{UpDatagram}, gateways.NamedGateway.{NamedGateway}, step.Part.{Part}}}
 use Rattle.amt_pair.proofs.{Alone.{PassesOnce}, HeardQueries.{same_peer-itself}, MembersAt.{are_at, host_at, host_is, hosts_are, lengths_are}}
 use Rattle.amt_dual.specs.{Answers.{is_ignored, is_machine}, InTurn.{is_ignored_part, part_of, parts_in_turn}, Parts.{machine_part, machine_parts}, Schedule.{IsDualPairEvent, at_first, dual_course_of, dual_pair_start, is_called}, Setup.{AreDualApart, DualHost, DualSetup, IsDualHost, IsLawfulDualSetup, machine_of, machines_in, machines_of}, State.{DualPairAt, StandsFor, machines}, Twins.{AreMachinesApart, are_of_one, are_twins}}
-use Rattle.amt_dual.{specs.declared.{event.DualPairEvent.{DualPairEvent}, pair.DualPair.{DualPair}, step.DualPart.{DualPart, TheVariants.{Gateway, Relay}}}, proofs.{MachineDeliveries.{IsForMachine, for_machine}, TwinPlaces.{IsFree, machine-is, once_called, one-machine, twin-first, twin-second}}}
+use Rattle.amt_dual.{specs.declared.{event.DualPairEvent.{DualPairEvent}, pair.DualPair.{DualPair}, step.DualPart.{DualPart, TheVariants.{Gateway, Relay}}}, proofs.{DualCourses.{dual_course_of-none, start_machines}, MachineDeliveries.{IsForMachine, for_machine}, TwinPlaces.{IsFree, machine-is, once_called, one-machine, twin-first, twin-second}}}
 
 -- ---- a step
 
@@ -144,10 +144,6 @@ members_append [] more [] others are also = also
 members_append (named ∷ gateways) more (member ∷ members) others are also = (are.0, members_append gateways more members others are.1 also)
 members_append gateways more members others are also = absurd are
 
-pub first_hosts : (hosts : List Host) → map host_at (map at_first hosts) ≡ hosts
-first_hosts [] = refl
-first_hosts (host ∷ hosts) = ap (λ (rest : List Host). host ∷ rest) (first_hosts hosts)
-
 -- those of a pair before any event, with one more gateway
 pub members_more_at_start : (settings : Settings) (gateways after both : List NamedGateway) (hosts : List DualHost) (host : DualHost)
     → AreMembersAt gateways (map at_first (flat_map (machines_of settings) hosts)) → AreMembersAt both (map at_first (map host_of both)) → map host_of both ≡ machines_of settings host
@@ -159,11 +155,6 @@ members_more_at_start settings gateways after both hosts host are new hosts_are 
     (subst (AreMembersAt (gateways ++ both)) (sym (map-append at_first old (machines_of settings host)))
     (members_append gateways both (map at_first old) (map at_first (machines_of settings host)) are
     (subst (λ (all : List Host). AreMembersAt both (map at_first all)) hosts_are new))))
-
--- before any event
-pub dual_course_of-none : (setup : DualSetup) → dual_course_of setup [] ≡ dual_pair_start (machines_in setup)
-unfolding dual_course_of
-dual_course_of-none setup = refl
 
 pub dual_pair_at_start : (pair : DualPair) (setup : DualSetup) → IsLawfulDualSetup setup → StandsFor pair (machines_in setup) (dual_pair_start (machines_in setup)) → DualPairAt pair setup []
 dual_pair_at_start pair setup lawful stands = record {
@@ -177,7 +168,7 @@ stands_at_start pair setup at = subst (StandsFor pair (machines_in setup)) (dual
 
 pub machines_at_start : (pair : DualPair) (setup : DualSetup) → DualPairAt pair setup [] → machines pair ≡ (machines_in setup).hosts
 machines_at_start pair setup at =
-    hosts_are pair.gateways (dual_pair_start (machines_in setup)).members (stands_at_start pair setup at).gateways ∙ first_hosts (machines_in setup).hosts
+    hosts_are pair.gateways (dual_pair_start (machines_in setup)).members (stands_at_start pair setup at).gateways ∙ start_machines (machines_in setup).hosts
 
 -- what holds of the gateways with more and without holds after they are appended
 pub after_append : {E : Type 0} (Fact : List NamedGateway → Type 0) (result : Result (Unit {0}) E) (old after more : List NamedGateway)

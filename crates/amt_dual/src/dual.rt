@@ -79,7 +79,11 @@ impl Dual {
     {
         match event {
             DualEvent::Moment(at) => self.take_moment(alloc, at),
-            DualEvent::Datagram { from, bytes } => self.take_datagram(alloc, from, bytes.as_slice()),
+            DualEvent::Datagram { from, bytes } => self.take_datagram(
+                alloc,
+                from,
+                bytes.as_slice(),
+            ),
             DualEvent::Socket { v6, event } => self.take_call(alloc, *v6, event),
         }
     }
@@ -132,14 +136,17 @@ impl Dual {
             bytes: Bytes::copied(alloc, bytes)?,
         };
         let v4 = self.v4.step(alloc, &event)?;
-        let v6 = if was_ignored(&v4) {
-            Some(self.v6.step(alloc, &event)?)
-        } else {
-            None
-        };
+        if !was_ignored(&v4) {
+            return Ok(DualStep {
+                v4: Some(v4),
+                v6: None,
+                starved: false,
+            });
+        }
+        let v6 = self.v6.step(alloc, &event)?;
         Ok(DualStep {
             v4: Some(v4),
-            v6,
+            v6: Some(v6),
             starved: false,
         })
     }
