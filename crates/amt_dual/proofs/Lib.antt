@@ -1,0 +1,9 @@
+pub mod DualAgrees
+pub mod DualCourses
+pub mod DualStates
+pub mod DualSteps
+pub mod MachineDeliveries
+pub mod MachineSights
+pub mod Machines
+pub mod SideBySide
+pub mod TwinPlaces

@@ -5,7 +5,7 @@ use Rattle.source_filter.specs.declared.record.Record.{Record}
 use Rattle.endpoint_membership.specs.declared.change.Change.TheVariants.{Reported}
 use Rattle.gateway_machine.specs.{Answers.{same_peer}, Laws.{last_of}}
 use Rattle.relay_machine.specs.{Events.{now_of}, Settings.{membership_interval_ms}}
-use Rattle.amt_pair.specs.{Agreement.{course_admits, is_of_endpoint}, Schedule.{Course, Entry, Member, Upward, numbered}, Sent.{SentReport, report_of}, Setup.{Host}}
+use Rattle.amt_pair.specs.{Agreement.{course_admits, is_of_endpoint}, Schedule.{Entry, Member, Upward, numbered}, Sent.{SentReport, report_of}, Setup.{Host}}
 use Rattle.amt_dual.specs.{Answers.{is_machine}, Family.{concerns_family}, Schedule.{dual_course_of}, Setup.{DualSetup, machines_in}, declared.event.DualPairEvent.{DualPairEvent, TheVariants.{Up}}}
 
 -- the machine sent the datagram

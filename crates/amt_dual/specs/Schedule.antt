@@ -1,11 +1,11 @@
 -- A schedule of a relay and its dual gateways. It leads to a course of a pair whose members are the machines, two a gateway.
-use Rattle.std.specs.{Prelude.{◌≡◌, ◌≤◌, ℕ, ◌&&◌, Bool, true, false, not, is_some, List, [], ◌∷◌, length, map, Contains, Option, Some, None}, List.{fold, list_any}}
+use Rattle.std.specs.{Prelude.{◌≡◌, ◌≤◌, ℕ, ◌&&◌, Bool, true, not, is_some, List, [], length, map, Contains, Option, Some, None, if◌then◌else◌}, List.{fold, list_any}}
 use Rattle.amt_values.specs.{EndpointValue.{EndpointValue}}
 use Rattle.gateway_machine.specs.{Answers.{call_in}, Events.{IsEventOf}, declared.event.GatewayEvent.{GatewayEvent}}
 use Rattle.relay_machine.specs.declared.sends.OneSend.{OneSend}
 use Rattle.amt_pair.specs.{Events.{IsEvent}, Schedule.{Course, Member, answer_at, delivery_down, has_name, is_at, numbered, start, with_member_event, with_pair_event}, Setup.{Host, PairSetup}}
 use Rattle.amt_pair.specs.declared.event.PairEvent.TheVariants as pair_events
-use Rattle.amt_dual.specs.{Answers.{comes_to, is_ignored, is_machine}, Setup.{DualSetup, first_of, machines_in}, declared.event.{DualEvent.{TheVariants.{Datagram as Arrives}}, DualPairEvent.{DualPairEvent, TheVariants.{Down, Moment, Packet, Rotate, Socket, Up}}}}
+use Rattle.amt_dual.specs.{Answers.{is_ignored, is_machine}, Setup.{DualSetup, first_of, machines_in}, declared.event.DualPairEvent.{DualPairEvent, TheVariants.{Down, Moment, Packet, Rotate, Socket, Up}}}
 
 -- the machine of this name and family
 abbrev pub is_called : List ℕ → Bool → Member → Bool

@@ -1,5 +1,5 @@
 -- What a relay and its dual gateways are set up with: two machines of one name and one peer for each gateway.
-use Rattle.std.specs.{Prelude.{◌≡◌, ◌≢◌, ◌<◌, ◌^◌, ℕ, Bool, true, false, List, [], ◌∷◌, All, AllPairs, if◌then◌else◌}, List.{flat_map}}
+use Rattle.std.specs.{Prelude.{◌≢◌, ◌<◌, ◌^◌, ℕ, Bool, true, false, List, [], ◌∷◌, All, AllPairs, if◌then◌else◌}, List.{flat_map}}
 use Rattle.amt_values.specs.{Address.{IsAddress}, declared.{address.Ip.{Ip, TheVariants.{V4, V6}}, peer.Peer.{Peer}}}
 use Rattle.response_mac.specs.declared.secret.Secret.{Secret}
 use Rattle.relay_machine.specs.{declared.settings.Settings.{Settings}, Settings.{AreLawfulSettings}}

@@ -1,10 +1,9 @@
 -- What a pair of both ends with dual gateways stands for.
-use Rattle.std.specs.{Prelude.{◌≡◌, ◌<◌, ◌||◌, ℕ, Bool, List, ◌∷◌, length, map, take, All}, List.{list_any}}
-use Rattle.amt_values.specs.declared.peer.Peer.{Peer}
-use Rattle.gateway_machine.specs.declared.event.GatewayEvent.{TheVariants.{Moment as Passes}}
+use Rattle.std.specs.Prelude.{◌≡◌, ◌<◌, ◌+◌, ℕ, true, List, [], ◌∷◌, get_or, length, map, take, All, if◌then◌else◌}
+use Rattle.gateway_machine.specs.declared.event.GatewayEvent.{GatewayEvent, TheVariants.{Moment as Passes}}
 use Rattle.relay_machine.specs.{Answers.{RelayAt}, declared.event.Event.TheVariants.{Moment}}
-use Rattle.amt_pair.specs.{Members.{AreMembersAt, host_of, kept_upward}, Parts.{relay_step}, Schedule.{Course}, Setup.{Host, PairSetup}, State.{moment_reached}}
-use Rattle.amt_dual.specs.{Parts.{machine_parts}, Schedule.{IsDualPairEvent, dual_course_of}, Setup.{DualHost, DualSetup, IsLawfulDualSetup, machines_in}}
+use Rattle.amt_pair.specs.{Members.{AreMembersAt, host_of, kept_upward}, Parts.{relay_step}, Schedule.{Course, Member, answer_at}, Setup.{Host, PairSetup}, State.{moment_reached, with_member_at}}
+use Rattle.amt_dual.specs.{Answers.{is_ignored}, Parts.{machine_part, machine_parts}, Schedule.{IsDualPairEvent, dual_course_of}, Setup.{DualSetup, IsLawfulDualSetup, machines_in}, Twins.{are_of_one}}
 use Rattle.amt_dual.specs.declared.{event.DualPairEvent.{DualPairEvent, TheVariants.{Moment as MomentForAll}}, pair.DualPair.{DualPair}, step.DualPart.{DualPart, TheVariants.{Relay}}}
 
 -- the machines of the gateways, in the order in which they were added
@@ -31,6 +30,23 @@ After pair Fact = (setup : DualSetup) (schedule : List DualPairEvent) → DualPa
 -- a fact of a setup and a course holds of all those for which the pair stands
 abbrev pub ForCourse : DualPair → (PairSetup → Course → Type 0) → Type 0
 ForCourse pair Fact = (setup : PairSetup) (course : Course) → StandsFor pair setup course → Fact setup course
+
+-- and of the machines of one gateway, at a place and after it
+abbrev pub ForTwins : DualPair → ℕ → (PairSetup → Course → Member → Member → Type 0) → Type 0
+ForTwins pair place Fact =
+    (setup : PairSetup) (course : Course) (v4 v6 : Member) → StandsFor pair setup course → get_or course.members place v4 ≡ v4
+    → get_or course.members (place + 1) v6 ≡ v6 → are_of_one v4.host v6.host ≡ true → Fact setup course v4 v6
+
+-- the parts of a delivery to these machines: of the IPv6 one where the IPv4 one ignored it
+abbrev pub twin_parts : GatewayEvent → Member → Member → List DualPart
+twin_parts event v4 v6 =
+    if is_ignored (answer_at v4 event).outcome then machine_part event v4 ∷ machine_part event v6 ∷ [] else machine_part event v4 ∷ []
+
+-- and the course after it, where they are at the place and after it
+abbrev pub with_twins_at : Course → GatewayEvent → ℕ → Member → Member → Course
+with_twins_at course event place v4 v6 =
+    if is_ignored (answer_at v4 event).outcome then with_member_at (with_member_at course event place v4) event (place + 1) v6
+    else with_member_at course event place v4
 
 -- how many datagrams were sent to the relay, and by it
 abbrev pub sent_up : DualPair → ℕ

@@ -1,14 +1,19 @@
 //! Both ends on a schedule, with gateways of both families. It knows no message: the ends alone do.
 
-ghost use Rattle.std.{specs.Prelude.{◌≡◌, true, map, All}, proofs.Props.{props}};
-ghost use Rattle.amt_pair.specs.{Setup.{relay_peer}, Members.{AreShort, AreShortSends, host_of}, OwnEndpoints.{HasOwnEndpoint}};
-ghost use Rattle.amt_dual.specs.Twins.{AreMachinesApart, are_twins};
+ghost use Rattle.std.{specs.Prelude.{◌≡◌, true, map, All, IfOk, None as NoRelay}, proofs.Props.{props}};
+ghost use Rattle.group_records.specs.Written.{is_of_family};
+ghost use Rattle.relay_machine.specs.declared.settings.Settings.{Settings as RelaySettings};
+ghost use Rattle.socket_merge.specs.FullReport.{family_by};
+ghost use Rattle.amt_pair.specs.{Setup.{amt_port, relay_peer}, Members.{AreMembersAt, AreShort, AreShortSends, IsMemberAt, host_of}, OwnEndpoints.{HasOwnEndpoint}};
+ghost use Rattle.amt_dual.specs.{InTurn.{is_ignored_part}, Schedule.{at_first}, Setup.{machines_of}, Twins.{AreMachinesApart, are_twins}};
 
 use crate::event::DualPairEvent;
-use crate::ranges::dual_event_fits;
 use crate::parts::{part_of, push_in_turn};
+use crate::ranges::dual_event_fits;
 use crate::step::{DualPairStep, DualPart, DualParts};
-use amt_pair::{DownDatagrams, Gateways, NamedGateway, Part, UpDatagrams, keep_copies, peer_fits, settings_fit};
+use amt_pair::{
+    DownDatagrams, Gateways, NamedGateway, Part, UpDatagrams, keep_copies, peer_fits, settings_fit,
+};
 use amt_values::{AMT_PORT, Bytes, Endpoint, Ip, Moment, Peer};
 use endpoint_membership::Rows;
 use gateway_machine::{Gateway, GatewayEvent, GatewayOutcome, GatewaySettings};
@@ -18,6 +23,7 @@ use std::alloc::{AllocError, Global};
 
 // The nonces of the first messages: of the IPv4 machine of each gateway, and of the IPv6 one.
 const FIRST_NONCE4: u32 = 1;
+
 const FIRST_NONCE6: u32 = 0x8000_0001;
 
 /// Why a dual gateway was not added.
@@ -57,13 +63,17 @@ pub struct DualPair {
 }
 
 impl DualPair {
-    ghost use Rattle.std.specs.Prelude.{◌≡◌, ◌<◌, ◌↔◌, ◌++◌, ◌∷◌, [], true, false, List, length, IfOk, IsErrOf, OnOk, OnErr};
+    ghost use Rattle.std.specs.Prelude.{◌≡◌, ◌<◌, ◌+◌, ◌↔◌, ◌&&◌, ◌++◌, ◌∷◌, [], true, false, Contains, HoldsAt, List, Option, length, IfOk, IsErrOf, OnOk, OnErr};
     ghost use Rattle.amt_values.specs.{EndpointValue.{EndpointValue}, declared.address.Ip.{Ip as IpValue}};
     ghost use Rattle.endpoint_membership.specs.Admission.{rows_admit};
-    ghost use Rattle.relay_machine.specs.{Answers.{rows_after}, Settings.{AreLawfulSettings}, declared.settings.Settings.{Settings as SettingsValue}};
+    ghost use Rattle.gateway_machine.specs.{Events.{IsEventOf}, Runs.{settings_of}, declared.settings.GatewaySettings.{GatewaySettings as MachineSettings}};
+    ghost use Rattle.relay_machine.specs.{Answers.{rows_after, settings_of as relay_settings_of}, EventSize.{IsEvent}, Settings.{AreLawfulSettings}, declared.settings.Settings.{Settings as SettingsValue}};
     ghost use Rattle.response_mac.specs.declared.secret.Secret.{Secret as SecretValue};
-    ghost use Rattle.amt_pair.specs.{Agreement.{CountsInTime, IsActive, wants_now}, Schedule.{Member}, Sent.{SentReport}, Setup.{has_taken}};
-    ghost use Rattle.amt_dual.specs.{Agreement.{IsMachineHeard, IsMachineInTime}, Family.{is_group_of}, Parts.{dual_parts_of}, Schedule.{DualFitsItsType, DualMayCome, with_dual_pair_event}, Setup.{DualHost, machines_in}, State.{After, DualPairAt, ForCourse, HasStarved, StandsFor, machines, sent_down, sent_up}};
+    ghost use Rattle.amt_pair.specs.{Agreement.{CountsInTime, IsActive, wants_now}, Parts.{relay_step}, Schedule.{Member, Upward, with_relay_event}, Sent.{SentReport}, Setup.{Host, has_taken}};
+    ghost use Rattle.amt_dual.specs.{Agreement.{IsMachineHeard, IsMachineInTime}, Answers.{is_machine}, Family.{is_group_of}, Parts.{dual_parts_of}, Schedule.{DualFitsItsType, DualMayCome, with_dual_pair_event}, Setup.{DualHost, machines_in}};
+    ghost use Rattle.amt_dual.specs.{State.{After, DualPairAt, ForCourse, ForTwins, HasStarved, StandsFor, machines, sent_down, sent_up, twin_parts, with_twins_at}, declared.step.DualPart.TheVariants.{Absent as AbsentPart, Relay as RelayPart}};
+    ghost use Rattle.socket_merge.specs.History.{same_name};
+    ghost use Rattle.amt_dual.specs.declared.event.DualPairEvent.TheVariants as events;
 
     /// A relay at moment 0, and no gateway.
     pub fn new(alloc: Global, settings: Settings, secret: Secret) -> Result<DualPair, AllocError>
@@ -108,7 +118,7 @@ impl DualPair {
         ensures same { OnErr result (self.new ≡ self.old) }
     {
         peer_fits(&peer);
-        if self.gateways.has_taken(name, &peer) {
+        if self.is_taken(name, &peer) {
             return Err(DualFault::Taken);
         }
         let Ok(both) = machines_of(alloc, &self.peer, name, &peer, source4, source6) else {
@@ -118,6 +128,12 @@ impl DualPair {
             Ok(()) => Ok(()),
             Err(_) => Err(DualFault::Memory),
         }
+    }
+
+    fn is_taken(&self, name: &[u8], peer: &Peer) -> bool
+        ensures { result ≡ has_taken name.now peer.now (machines self.now) }
+    {
+        self.gateways.has_taken(name, peer)
     }
 
     /// The memberships at the relay, by tunnel endpoint and then by group.
@@ -144,11 +160,7 @@ impl DualPair {
     /// nothing changes, and the event may be given again. Where it runs out at a later step of a moment, the
     /// answer says so: it holds the parts of the steps before, and the machines from there on have not heard of
     /// the moment.
-    pub fn step(
-        &mut self,
-        alloc: Global,
-        event: &DualPairEvent,
-    ) -> Result<DualPairStep, AllocError>
+    pub fn step(&mut self, alloc: Global, event: &DualPairEvent) -> Result<DualPairStep, AllocError>
         requires { DualMayCome (machines self.old) event.now }
         ensures parts { ForCourse self.old (λ setup course. IfOk result (λ step. step.starved ≡ false
             → step.parts ≡ dual_parts_of setup course event.now)) }
@@ -196,11 +208,17 @@ impl DualPair {
     }
 
     // The relay takes one event, as in a pair: where it sends something, it is as before.
-    fn take_at_relay(
-        &mut self,
-        alloc: Global,
-        event: &Event,
-    ) -> Result<DualPairStep, AllocError>
+    fn take_at_relay(&mut self, alloc: Global, event: &Event) -> Result<DualPairStep, AllocError>
+        requires { IsEvent (relay_settings_of self.old.relay) event.now }
+        ensures parts { ForCourse self.old (λ setup course. IfOk result (λ step.
+            step.parts ≡ RelayPart (relay_step setup course event.now) ∷ [])) }
+        ensures next { ForCourse self.old (λ setup course. (by : Option Upward) → IfOk result (λ _.
+            StandsFor self.new setup (with_relay_event setup by event.now course))) }
+        ensures all { IfOk result (λ step. step.starved ≡ false) }
+        ensures up { IfOk result (λ step. step.up ≡ sent_up self.new) }
+        ensures down { IfOk result (λ step. step.down ≡ sent_down self.new) }
+        ensures hosts { machines self.new ≡ machines self.old }
+        ensures err { ForCourse self.old (λ setup course. OnErr result (self.new ≡ self.old)) }
     {
         let mut parts = Vec::with_capacity(alloc, 1)?;
         let step = self.relay.step(alloc, event)?;
@@ -211,6 +229,16 @@ impl DualPair {
 
     // A moment comes to the relay, and then to each machine.
     fn take_moment(&mut self, alloc: Global, at: &Moment) -> Result<DualPairStep, AllocError>
+        ensures parts { ForCourse self.old (λ setup course. IfOk result (λ step. step.starved ≡ false
+            → step.parts ≡ dual_parts_of setup course (events.Moment at.now))) }
+        ensures next { ForCourse self.old (λ setup course. IfOk result (λ step. step.starved ≡ false
+            → StandsFor self.new setup (with_dual_pair_event setup course (events.Moment at.now)))) }
+        ensures starved { ForCourse self.old (λ setup course. IfOk result (λ step. step.starved ≡ true
+            → HasStarved setup course (events.Moment at.now) self.new step.parts)) }
+        ensures up { IfOk result (λ step. step.up ≡ sent_up self.new) }
+        ensures down { IfOk result (λ step. step.down ≡ sent_down self.new) }
+        ensures hosts { machines self.new ≡ machines self.old }
+        ensures err { ForCourse self.old (λ setup course. OnErr result (self.new ≡ self.old)) }
     {
         let mut parts = Vec::with_capacity(alloc, 1 + self.gateways.len())?;
         let mut machines_parts = Vec::with_capacity(alloc, self.gateways.len())?;
@@ -223,6 +251,27 @@ impl DualPair {
         Ok(self.step_of(parts, !came_to_all))
     }
 
+    // The place of the IPv6 machine that follows the machine at this place.
+    fn next_place(&self, place: usize) -> usize
+        requires { place < length self.now.gateways }
+        ensures { result ≡ place + 1 }
+    {
+        let count = self.gateways.len();
+        prove!(place < count);
+        place + 1
+    }
+
+    // The place of the machine of this name and family.
+    fn place_of(&self, name: &[u8], v6: bool) -> usize
+        requires { (host : Host) × Contains (machines self.now) host × (host.name ≡ name.now) }
+        ensures within { result < length self.now.gateways }
+        ensures found { HoldsAt (λ one. (same_name name.now one.name && is_machine v6 (settings_of one.gateway).v6) ≡ true)
+            self.now.gateways result }
+    {
+        let first = self.gateways.place_of_name(name).unwrap();
+        if v6 { self.next_place(first) } else { first }
+    }
+
     // The machine of this name and family takes a socket call.
     fn take_call(
         &mut self,
@@ -231,9 +280,18 @@ impl DualPair {
         v6: bool,
         event: &GatewayEvent,
     ) -> Result<DualPairStep, AllocError>
+        requires { DualMayCome (machines self.old) (events.Socket name.now v6 event.now) }
+        ensures parts { ForCourse self.old (λ setup course. IfOk result (λ step.
+            step.parts ≡ dual_parts_of setup course (events.Socket name.now v6 event.now))) }
+        ensures next { ForCourse self.old (λ setup course. IfOk result (λ _.
+            StandsFor self.new setup (with_dual_pair_event setup course (events.Socket name.now v6 event.now)))) }
+        ensures all { IfOk result (λ step. step.starved ≡ false) }
+        ensures up { IfOk result (λ step. step.up ≡ sent_up self.new) }
+        ensures down { IfOk result (λ step. step.down ≡ sent_down self.new) }
+        ensures hosts { machines self.new ≡ machines self.old }
+        ensures err { OnErr result (self.new ≡ self.old) }
     {
-        let first = self.gateways.place_of_name(name).unwrap();
-        let place = if v6 { first + 1 } else { first };
+        let place = self.place_of(name, v6);
         let mut parts = Vec::with_capacity(alloc, 1)?;
         let part = self.gateways.take_at(alloc, place, event, &mut self.up)?;
         parts.push_reserved(part_of(part, v6));
@@ -242,6 +300,10 @@ impl DualPair {
 
     // No datagram of this number can be delivered.
     fn absent(&self, alloc: Global, number: u64) -> Result<DualPairStep, AllocError>
+        ensures parts { IfOk result (λ step. step.parts ≡ AbsentPart number ∷ []) }
+        ensures all { IfOk result (λ step. step.starved ≡ false) }
+        ensures up { IfOk result (λ step. step.up ≡ sent_up self.now) }
+        ensures down { IfOk result (λ step. step.down ≡ sent_down self.now) }
     {
         let mut parts = Vec::with_capacity(alloc, 1)?;
         parts.push_reserved(DualPart::Absent(number));
@@ -250,6 +312,15 @@ impl DualPair {
 
     // The relay takes the datagram of this number that was sent to it.
     fn deliver_up(&mut self, alloc: Global, number: u64) -> Result<DualPairStep, AllocError>
+        ensures parts { ForCourse self.old (λ setup course. IfOk result (λ step.
+            step.parts ≡ dual_parts_of setup course (events.Up number))) }
+        ensures next { ForCourse self.old (λ setup course. IfOk result (λ _.
+            StandsFor self.new setup (with_dual_pair_event setup course (events.Up number)))) }
+        ensures all { IfOk result (λ step. step.starved ≡ false) }
+        ensures up { IfOk result (λ step. step.up ≡ sent_up self.new) }
+        ensures down { IfOk result (λ step. step.down ≡ sent_down self.new) }
+        ensures hosts { machines self.new ≡ machines self.old }
+        ensures err { ForCourse self.old (λ setup course. OnErr result (self.new ≡ self.old)) }
     {
         let Some(datagram) = self.up.get(number) else {
             return self.absent(alloc, number);
@@ -259,9 +330,17 @@ impl DualPair {
         self.take_at_relay(alloc, &Event::Datagram { bytes, from })
     }
 
-    // The gateway that it is for takes the datagram of this number that the relay sent: its IPv4 machine, and
-    // where that one ignores it, its IPv6 machine.
+    // The gateway that it is for takes the datagram of this number that the relay sent.
     fn deliver_down(&mut self, alloc: Global, number: u64) -> Result<DualPairStep, AllocError>
+        ensures parts { ForCourse self.old (λ setup course. IfOk result (λ step.
+            step.parts ≡ dual_parts_of setup course (events.Down number))) }
+        ensures next { ForCourse self.old (λ setup course. IfOk result (λ _.
+            StandsFor self.new setup (with_dual_pair_event setup course (events.Down number)))) }
+        ensures all { IfOk result (λ step. step.starved ≡ false) }
+        ensures up { IfOk result (λ step. step.up ≡ sent_up self.new) }
+        ensures down { IfOk result (λ step. step.down ≡ sent_down self.new) }
+        ensures hosts { machines self.new ≡ machines self.old }
+        ensures err { ForCourse self.old (λ setup course. OnErr result (self.new ≡ self.old)) }
     {
         let Some(send) = self.down.get(number) else {
             return self.absent(alloc, number);
@@ -274,15 +353,39 @@ impl DualPair {
             from: self.peer,
             bytes,
         };
+        self.deliver_at(alloc, place, &event)
+    }
+
+    // A delivery comes to the IPv4 machine at this place, and where that one ignores it, to the IPv6 machine
+    // after it.
+    fn deliver_at(
+        &mut self,
+        alloc: Global,
+        place: usize,
+        event: &GatewayEvent,
+    ) -> Result<DualPairStep, AllocError>
+        requires place { place + 1 < length self.old.gateways }
+        requires event { (settings : MachineSettings) → IsEventOf settings event.now }
+        ensures parts { ForTwins self.old place (λ setup course v4 v6. IfOk result (λ step.
+            step.parts ≡ twin_parts event.now v4 v6)) }
+        ensures next { ForTwins self.old place (λ setup course v4 v6. IfOk result (λ _.
+            StandsFor self.new setup (with_twins_at course event.now place v4 v6))) }
+        ensures all { IfOk result (λ step. step.starved ≡ false) }
+        ensures up { IfOk result (λ step. step.up ≡ sent_up self.new) }
+        ensures down { IfOk result (λ step. step.down ≡ sent_down self.new) }
+        ensures hosts { machines self.new ≡ machines self.old }
+        ensures err { ForTwins self.old place (λ setup course v4 v6. OnErr result (self.new ≡ self.old)) }
+    {
         let mut parts = Vec::with_capacity(alloc, 2)?;
-        let v4 = self.gateways.take_at(alloc, place, &event, &mut self.up)?;
-        if was_ignored(&v4) {
-            let v6 = self.gateways.take_at(alloc, place + 1, &event, &mut self.up)?;
+        let next = self.next_place(place);
+        let v4 = self.gateways.take_at(alloc, place, event, &mut self.up)?;
+        if !was_ignored(&v4) {
             parts.push_reserved(part_of(v4, false));
-            parts.push_reserved(part_of(v6, true));
-        } else {
-            parts.push_reserved(part_of(v4, false));
+            return Ok(self.step_of(parts, false));
         }
+        let v6 = self.gateways.take_at(alloc, next, event, &mut self.up)?;
+        parts.push_reserved(part_of(v4, false));
+        parts.push_reserved(part_of(v6, true));
         Ok(self.step_of(parts, false))
     }
 }
@@ -324,6 +427,10 @@ fn machines_of(
     source4: u32,
     source6: u128,
 ) -> Result<Vec<NamedGateway>, AllocError>
+    ensures hosts { (settings : RelaySettings) → relay.now ≡ relay_peer settings
+        → IfOk result (λ both. map host_of both.items ≡ machines_of settings
+        (record { name = name.now; peer = peer.now; source4 = source4; source6 = source6 })) }
+    ensures stand { IfOk result (λ both. AreMembersAt both.items (map at_first (map host_of both.items))) }
 {
     let mut both = Vec::with_capacity(alloc, 2)?;
     both.push_reserved(machine(alloc, relay, name, peer, false, Ip::V4(source4))?);
@@ -333,6 +440,7 @@ fn machines_of(
 
 // Whether the part is that of a machine that ignored a datagram.
 fn was_ignored(part: &Part) -> bool
+    ensures { result ≡ is_ignored_part part.now }
 {
     match part {
         Part::Gateway { step, .. } => match step.outcome {

@@ -1,6 +1,6 @@
 //! The parts of a pair's steps as those of machines.
 
-ghost use Rattle.std.specs.Prelude.{◌≡◌, ◌≤◌, ◌+◌, ◌++◌, Bool, length, vec_capacity, vec_len};
+ghost use Rattle.std.specs.Prelude.{◌≡◌, ◌≤◌, ◌+◌, ◌++◌, Bool, false, length, vec_capacity, vec_len};
 ghost use Rattle.amt_dual.specs.InTurn.{part_of, parts_in_turn};
 
 use crate::step::DualPart;

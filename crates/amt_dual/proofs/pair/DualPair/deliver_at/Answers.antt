@@ -1,0 +1,67 @@
+use Rattle.std.proofs.{Common.{◌≡◌, ◌≢◌, ◌+◌, ℕ, false, true, List, [], ◌∷◌, ◌++◌, get_or, set, refl, sym, ap, ◌∙◌, arith}, lemmas.{Bool.{cond-true}, List.{get_or-set_other}}}
+use Rattle.amt_pair.{specs.{Members.{AreMembersAt}, Schedule.{Course, Member, answer_at, upwards_on, with_gateway_event}, State.{with_member_at}}, proofs.PairStates.{on_err_by, up_more}}
+use Rattle.amt_dual.{specs.{Answers.{is_ignored}, InTurn.{part_of}, Parts.{machine_part}, declared.step.DualPart.{DualPart}}, proofs.{DualStates.{ignored_by, machine_part_is, refused-ignored, same_pair, stands_by}, TwinPlaces.{twin-first, twin-second}}}
+use Rattle.amt_dual.proofs.pair.DualPair.deliver_at.Goals as goal
+
+pub take_at-requires-clause-event : goal.take_at-requires-clause-event
+take_at-requires-clause-event c = λ default. c.requires.event _
+
+pub take_at-requires-2-clause-event : goal.take_at-requires-2-clause-event
+take_at-requires-2-clause-event c = λ default. c.requires.event _
+
+pub returns-in_err-v6-clause-err : goal.returns-in_err-v6-clause-err
+returns-in_err-v6-clause-err c = λ setup course v4 v6 stands here next twins.
+    let pair = c.args.self.now in
+    let event = c.args.event.now in
+    let part = c.in_ok-v4.ensures.part course.members v4 stands.gateways here in
+    let ignored : is_ignored (answer_at v4 event).outcome ≡ true =
+    sym (ignored_by event c.in_ok-v4.v4 v4 c.was_ignored.result part c.was_ignored.ensures) ∙ c.if-not-was_ignored.false in
+    let same = c.in_ok-v4.ensures.ignored course.members v4 stands.gateways here (refused-ignored (answer_at v4 event).outcome ignored) in
+    on_err_by c.from_residual-in_err-v6.result
+    (same_pair pair pair.relay c.take_at-2.new.self c.take_at-2.new.up pair.down _ _ _ _ _ _ refl (c.in_err-v6.ensures.same ∙ same.0) (c.in_err-v6.ensures.same_up ∙ same.1) refl)
+
+pub returns-clause-parts : goal.returns-clause-parts
+returns-clause-parts c = λ setup course v4 v6 stands here next twins.
+    let event = c.args.event.now in
+    let part = c.in_ok-v4.ensures.part course.members v4 stands.gateways here in
+    let ignored : is_ignored (answer_at v4 event).outcome ≡ true =
+    sym (ignored_by event c.in_ok-v4.v4 v4 c.was_ignored.result part c.was_ignored.ensures) ∙ c.if-not-was_ignored.false in
+    let members : List Member = set course.members c.args.place (with_gateway_event event v4) in
+    let now : AreMembersAt c.take_at.new.self members = c.in_ok-v4.ensures.next course.members v4 stands.gateways here in
+    let apart : c.next_place-next.result ≢ c.args.place = λ same. omega (arith, c.next_place-next.ensures) in
+    let there : get_or members c.next_place-next.result v6 ≡ v6 =
+    get_or-set_other course.members c.args.place c.next_place-next.result (with_gateway_event event v4) v6 apart
+    ∙ ap (λ (k : ℕ). get_or course.members k v6) c.next_place-next.ensures ∙ next in
+    let one : c.part_of-2.result ≡ machine_part event v4 =
+    c.part_of-2.ensures ∙ ap (part_of false) part ∙ machine_part_is event false v4 (twin-first v4.host v6.host twins) in
+    let other : c.part_of-3.result ≡ machine_part event v6 =
+    c.part_of-3.ensures ∙ ap (part_of true) (c.in_ok-v6.ensures.part members v6 now there) ∙ machine_part_is event true v6 (twin-second v4.host v6.host twins) in
+    c.step_of-2.ensures.parts ∙ c.push_reserved-3.ensures.items
+    ∙ ap (λ (before : List DualPart). before ++ c.part_of-3.result ∷ []) c.push_reserved-2.ensures.items
+    ∙ (λ i. (c.in_ok-parts.ensures.items i ++ one i ∷ []) ++ other i ∷ [])
+    ∙ sym (cond-true (is_ignored (answer_at v4 event).outcome) (machine_part event v4 ∷ machine_part event v6 ∷ []) (machine_part event v4 ∷ []) ignored)
+
+pub returns-clause-next : goal.returns-clause-next
+returns-clause-next c = λ setup course v4 v6 stands here next twins.
+    let pair = c.args.self.now in
+    let event = c.args.event.now in
+    let place = c.args.place in
+    let part = c.in_ok-v4.ensures.part course.members v4 stands.gateways here in
+    let ignored : is_ignored (answer_at v4 event).outcome ≡ true =
+    sym (ignored_by event c.in_ok-v4.v4 v4 c.was_ignored.result part c.was_ignored.ensures) ∙ c.if-not-was_ignored.false in
+    let members : List Member = set course.members place (with_gateway_event event v4) in
+    let now : AreMembersAt c.take_at.new.self members = c.in_ok-v4.ensures.next course.members v4 stands.gateways here in
+    let apart : c.next_place-next.result ≢ place = λ same. omega (arith, c.next_place-next.ensures) in
+    let there : get_or members c.next_place-next.result v6 ≡ v6 =
+    get_or-set_other course.members place c.next_place-next.result (with_gateway_event event v4) v6 apart
+    ∙ ap (λ (k : ℕ). get_or course.members k v6) c.next_place-next.ensures ∙ next in
+    let first = up_more pair.up c.take_at.new.up course.up (upwards_on event v4) stands.up (c.in_ok-v4.ensures.sent course.members v4 stands.gateways here) in
+    let after : Course = with_member_at course event place v4 in
+    stands_by setup (with_member_at after event c.next_place-next.result v6) _ _ (record {
+      relay = stands.relay;
+      gateways = c.in_ok-v6.ensures.next members v6 now there;
+      up = up_more c.take_at.new.up c.take_at-2.new.up after.up (upwards_on event v6) first (c.in_ok-v6.ensures.sent members v6 now there);
+      down = stands.down;
+    })
+    (ap (λ (k : ℕ). with_member_at after event k v6) c.next_place-next.ensures
+    ∙ sym (cond-true (is_ignored (answer_at v4 event).outcome) (with_member_at after event (place + 1) v6) after ignored))
