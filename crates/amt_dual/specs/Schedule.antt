@@ -1,11 +1,11 @@
 -- A schedule of a relay and its dual gateways. It leads to a course of a pair whose members are the machines, two a gateway.
-use Rattle.std.specs.{Prelude.{◌≡◌, ◌≤◌, ℕ, ◌&&◌, Bool, true, not, is_some, List, [], length, map, Contains, Option, Some, None, if◌then◌else◌}, List.{fold, list_any}}
+use Rattle.std.specs.{Prelude.{◌≡◌, ◌≤◌, ℕ, ◌&&◌, Bool, not, is_some, List, [], length, map, Contains, Option, Some, None}, List.{fold, list_any}}
 use Rattle.amt_values.specs.{EndpointValue.{EndpointValue}}
 use Rattle.gateway_machine.specs.{Answers.{call_in}, Events.{IsEventOf}, declared.event.GatewayEvent.{GatewayEvent}}
 use Rattle.relay_machine.specs.declared.sends.OneSend.{OneSend}
-use Rattle.amt_pair.specs.{Events.{IsEvent}, Schedule.{Course, Member, answer_at, delivery_down, has_name, is_at, numbered, start, with_member_event, with_pair_event}, Setup.{Host, PairSetup}}
+use Rattle.amt_pair.specs.{Events.{IsEvent}, Schedule.{Course, Member, answer_at, delivery_down, has_name, is_at, numbered, start, with_member_event, with_pair_event}, Setup.{Host, PairSetup, relay_peer}}
 use Rattle.amt_pair.specs.declared.event.PairEvent.TheVariants as pair_events
-use Rattle.amt_dual.specs.{Answers.{is_ignored, is_machine}, Setup.{DualSetup, first_of, machines_in}, declared.event.DualPairEvent.{DualPairEvent, TheVariants.{Down, Moment, Packet, Rotate, Socket, Up}}}
+use Rattle.amt_dual.specs.{Answers.{comes_to, is_ignored, is_machine}, Setup.{DualSetup, first_of, machines_in}, declared.event.{DualEvent.{DualEvent, TheVariants.{Datagram as Arrives}}, DualPairEvent.{DualPairEvent, TheVariants.{Down, Moment, Packet, Rotate, Socket, Up}}}}
 
 -- the machine of this name and family
 abbrev pub is_called : List ℕ → Bool → Member → Bool
@@ -15,11 +15,15 @@ is_called name v6 member = has_name name member && is_machine v6 member.host.set
 abbrev pub ignores : EndpointValue → GatewayEvent → Member → Bool
 ignores endpoint event member = (is_at endpoint member && not member.host.settings.v6) && is_ignored (answer_at member event).outcome
 
--- the machine takes a delivery of this datagram: the IPv4 one at the endpoint does, and the IPv6 one there where that one ignores it
+-- what a delivery of this datagram is to a dual gateway
+abbrev pub arrival : PairSetup → OneSend → DualEvent
+arrival setup send = Arrives (relay_peer setup.settings) send.bytes
+
+-- the machine takes a delivery of this datagram: it is at the endpoint, and the datagram comes to it as to one of a dual gateway
 abbrev pub takes_delivery : PairSetup → List Member → OneSend → Member → Bool
 takes_delivery setup members send member =
     is_at send.to member
-    && (if member.host.settings.v6 then list_any (ignores send.to (delivery_down setup send)) members else true)
+    && comes_to (list_any (ignores send.to (delivery_down setup send)) members) (arrival setup send) member.host.settings.v6
 
 -- the course after a delivery of this datagram, if it was sent
 abbrev pub down_taken : PairSetup → Option OneSend → Course → Course
