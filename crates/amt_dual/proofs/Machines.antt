@@ -48,9 +48,10 @@ module _ (settings : Settings) where
       let rest = flat_map (machines_of settings) more in
       let away : (machine : Host) → machine.peer ≡ host.peer → All (AreOther machine) rest = λ machine is.
       each-machine (AreOther machine) more (λ k d below.
-      let other = apart 0 (suc k) d (omega arith) (omega arith) in
-      (other-peer machine (machine_of settings false (get_or more k d)) host.peer (get_or more k d).peer is refl other,
-      other-peer machine (machine_of settings true (get_or more k d)) host.peer (get_or more k d).peer is refl other)) in
+      let other = apart 0 (suc k) d (omega arith) (omega arith) in (
+        other-peer machine (machine_of settings false (get_or more k d)) host.peer (get_or more k d).peer is refl other,
+        other-peer machine (machine_of settings true (get_or more k d)) host.peer (get_or more k d).peer is refl other,
+      )) in
       AllPairs-cons AreOther v4 (v6 ∷ rest) (All-cons (AreOther v4) v6 rest (λ same. let families : false ≡ true = ap (λ (key : Peer × Bool). key.1) same in absurd cc) (away v4 refl))
       (AllPairs-cons AreOther v6 rest (away v6 refl)
       (machines-apart more (λ i j d low within. apart (suc i) (suc j) d (omega arith) (omega arith))))
@@ -68,7 +69,7 @@ machine-key : (machine other : Host) → (same_peer machine.peer other.peer && i
     → peer_and_family machine ≡ peer_and_family other
 machine-key machine other own =
     let parts = and_parts (same_peer machine.peer other.peer) (is_machine machine.settings.v6 other.settings.v6) own in
-    λ i. (same_peer-is machine.peer other.peer parts.0 i , machine-is machine.settings.v6 other.settings.v6 parts.1 i)
+    λ i. (same_peer-is machine.peer other.peer parts.0 i, machine-is machine.settings.v6 other.settings.v6 parts.1 i)
 
 -- so before any event it is alone
 pub alone-first : (hosts : List Host) (machine : Host) → AllPairs AreOther hosts → Contains hosts machine

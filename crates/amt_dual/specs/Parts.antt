@@ -1,5 +1,5 @@
 -- What an event comes to: a part for each step of the relay and of a machine, or that a datagram is absent.
-use Rattle.std.specs.{Prelude.{ℕ, Bool, true, not, List, [], ◌∷◌, map, Option, Some, None}, List.{filter}}
+use Rattle.std.specs.{Prelude.{ℕ, List, [], ◌∷◌, map, Option, Some, None}, List.{filter}}
 use Rattle.gateway_machine.specs.declared.event.GatewayEvent.{GatewayEvent, TheVariants.{Moment as Passes}}
 use Rattle.relay_machine.specs.declared.{event.Event.{TheVariants.{Moment, Packet, Rotate}}, sends.OneSend.{OneSend}}
 use Rattle.amt_pair.specs.{Parts.{gateway_step, relay_step}, Schedule.{Course, Member, Upward, answer_at, delivery_down, delivery_up, numbered}, Setup.{PairSetup}}
