@@ -1,11 +1,11 @@
 //! The lines that say what happens to a relay and its gateways, by what follows their first word. It knows
 //! no gateway.
 
-ghost use Rattle.std.specs.Prelude.{◌∷◌, ℕ, List, IfOk, IfErr};
-ghost use Rattle.amt_script.specs.{Fault.{FailsAs as RelayFails}, Says.{SaysItem as RelaySays}, declared.setting.Setting.{Setting as SettingValue}};
+ghost use Rattle.std.specs.Prelude.{[], ◌∷◌, ℕ, List, IfOk, IfErr};
+ghost use Rattle.amt_script.specs.{Fault.{FailsAs as RelayFails}, Says.{SaysItem as RelaySays}};
 ghost use Rattle.amt_script.specs.declared.kind.Kind.TheVariants as kinds;
 ghost use Rattle.script_lines.specs.{Lines.{fields}, Reading.{FailsFirst}};
-ghost use Rattle.pair_script.specs.{Fault.{FailsAfterOpening, FailsAsNumber, order_of_reasons}, Opening.{IsItemOpening, opening_word}, Reading.{IsNumberOf, IsSharedEvent, IsSharedItem, NamesNoGateway}, Says.{SaysEventAfter, SaysItemAfter}, declared.script.{PairGateway.{PairGateway as GatewayValue}, PairItem.{PairItem as ItemValue}}};
+ghost use Rattle.pair_script.specs.{Fault.{FailsAfterOpening, FailsAsNumber, order_of_reasons}, Opening.{IsItemOpening, opening_word}, Reading.{IsNumberOf, IsSharedEvent, IsSharedItem, NamesNoGateway}, Says.{SaysEventAfter, SaysItemAfter}};
 ghost use Rattle.amt_script.specs.declared.script.RelayItem.TheVariants as relay_items;
 ghost use Rattle.pair_script.specs.declared.opening.Opening.TheVariants as openings;
 ghost use Rattle.pair_script.specs.declared.script.PairItem.TheVariants.{Event as EventItem};
@@ -21,8 +21,8 @@ use std::alloc::Global;
 // What a line of a relay's script says of a pair. No line of a pair's script says a datagram or new limits.
 fn shared_event(event: Event) -> PairEvent
     requires { IsSharedEvent event }
-    ensures says { (gateways : List GatewayValue) (line : List (List ℕ)) → RelaySays (relay_items.Event event) line
-        → SaysEventAfter gateways result line }
+    ensures says { (line : List (List ℕ)) → RelaySays (relay_items.Event event) line
+        → SaysEventAfter [] result line }
     ensures unnamed { NamesNoGateway (EventItem result) }
 {
     match event {
@@ -36,8 +36,8 @@ fn shared_event(event: Event) -> PairEvent
 
 fn shared_item(item: RelayItem) -> PairItem
     requires { IsSharedItem item }
-    ensures says { (gateways : List GatewayValue) (line : List (List ℕ)) → RelaySays item line
-        → SaysItemAfter gateways result line }
+    ensures says { (line : List (List ℕ)) → RelaySays item line
+        → SaysItemAfter [] result line }
     ensures unnamed { NamesNoGateway result }
 {
     match item {
@@ -48,8 +48,8 @@ fn shared_item(item: RelayItem) -> PairItem
 
 // The item of a line `at MS`.
 fn read_moment_line(values: &[u8]) -> Result<PairItem, LineError>
-    ensures found { (gateways : List GatewayValue) → IfOk result (λ item.
-        SaysItemAfter gateways item (opening_word openings.Moment ∷ fields values.now)) }
+    ensures found { IfOk result (λ item.
+        SaysItemAfter [] item (opening_word openings.Moment ∷ fields values.now)) }
     ensures unnamed { IfOk result NamesNoGateway }
     ensures reason { IfErr result (FailsFirst (RelayFails kinds.Moment (fields values.now)) order_of_reasons) }
 {
@@ -61,8 +61,8 @@ fn read_moment_line(values: &[u8]) -> Result<PairItem, LineError>
 
 // The item of a line `secret HEX`.
 fn read_secret_line(values: &[u8]) -> Result<PairItem, LineError>
-    ensures found { (gateways : List GatewayValue) → IfOk result (λ item.
-        SaysItemAfter gateways item (opening_word openings.Secret ∷ fields values.now)) }
+    ensures found { IfOk result (λ item.
+        SaysItemAfter [] item (opening_word openings.Secret ∷ fields values.now)) }
     ensures unnamed { IfOk result NamesNoGateway }
     ensures reason { IfErr result (FailsFirst (RelayFails kinds.Secret (fields values.now)) order_of_reasons) }
 {
@@ -74,8 +74,8 @@ fn read_secret_line(values: &[u8]) -> Result<PairItem, LineError>
 
 // The item of a line `mc HEX`.
 fn read_packet_line(alloc: Global, values: &[u8]) -> Result<PairItem, LineError>
-    ensures found { (gateways : List GatewayValue) → IfOk result (λ item.
-        SaysItemAfter gateways item (opening_word openings.Packet ∷ fields values.now)) }
+    ensures found { IfOk result (λ item.
+        SaysItemAfter [] item (opening_word openings.Packet ∷ fields values.now)) }
     ensures unnamed { IfOk result NamesNoGateway }
     ensures reason { IfErr result (FailsFirst (RelayFails kinds.Packet (fields values.now)) order_of_reasons) }
 {
@@ -87,8 +87,8 @@ fn read_packet_line(alloc: Global, values: &[u8]) -> Result<PairItem, LineError>
 
 // The item of a line `show`.
 fn read_show_line(values: &[u8]) -> Result<PairItem, LineError>
-    ensures found { (gateways : List GatewayValue) → IfOk result (λ item.
-        SaysItemAfter gateways item (opening_word openings.Show ∷ fields values.now)) }
+    ensures found { IfOk result (λ item.
+        SaysItemAfter [] item (opening_word openings.Show ∷ fields values.now)) }
     ensures unnamed { IfOk result NamesNoGateway }
     ensures reason { IfErr result (FailsFirst (RelayFails kinds.Show (fields values.now)) order_of_reasons) }
 {
@@ -112,15 +112,15 @@ fn read_datagram_number(values: &[u8]) -> Result<u64, LineError>
     }
 }
 
-/// The item of a line that begins with this word, neither `set` nor `gateway`, by what follows the word: the
-/// same whatever stands above the line.
+/// The item of a line that begins with this word and gives neither a setting nor a gateway, by what follows
+/// the word. It is the same whatever stands above the line, which names no gateway.
 pub fn read_item(alloc: Global, opening: Opening, values: &[u8]) -> Result<PairItem, LineError>
     requires { IsItemOpening opening }
-    ensures found { (gateways : List GatewayValue) → IfOk result (λ item.
-        SaysItemAfter gateways item (opening_word opening ∷ fields values.now)) }
+    ensures found { IfOk result (λ item.
+        SaysItemAfter [] item (opening_word opening ∷ fields values.now)) }
     ensures unnamed { IfOk result NamesNoGateway }
-    ensures reason { (given : List SettingValue) (gateways : List GatewayValue) (items : List ItemValue) → IfErr result
-        (FailsFirst (FailsAfterOpening given gateways items opening (fields values.now)) order_of_reasons) }
+    ensures reason { IfErr result
+        (FailsFirst (FailsAfterOpening [] [] [] opening (fields values.now)) order_of_reasons) }
 {
     match opening {
         Opening::Moment => read_moment_line(values),
