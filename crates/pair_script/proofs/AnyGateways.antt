@@ -9,7 +9,7 @@ use Rattle.pair_script.specs.declared.script.PairItem.TheVariants as items
 
 -- what a line says after no gateway, it says after any
 pub said_after : (gateways : List PairGateway) (item : PairItem) (line : List (List ℕ)) → SaysItemAfter [] item line → SaysItemAfter gateways item line
-said_after gateways (items.Event (events.Socket name event)) line says = cc says.given
+said_after gateways (items.Event (events.Socket name event)) line says = absurd (cc says.given)
 said_after gateways (items.Event event) line says = says
 said_after gateways items.Show line says = says
 
