@@ -15,7 +15,7 @@ opening_word openings.Show = codes "show"
 opening_word openings.Up = codes "up"
 opening_word openings.Down = codes "down"
 
--- the line says what happens next, or is shown: it gives no setting and no gateway
+-- it begins a line that says what happens next or what is shown, and gives no setting and no gateway
 abbrev pub IsItemOpening : Opening → Type 0
 IsItemOpening openings.Set = ⊥
 IsItemOpening openings.Gateway = ⊥

@@ -112,8 +112,8 @@ fn read_datagram_number(values: &[u8]) -> Result<u64, LineError>
     }
 }
 
-/// The item of a line that begins with this word and gives neither a setting nor a gateway, by what follows
-/// the word. It is the same whatever stands above the line, which names no gateway.
+/// The item of a line that begins with this word, by what follows the word. It is the same whatever stands above
+/// the line, which names no gateway.
 pub fn read_item(alloc: Global, opening: Opening, values: &[u8]) -> Result<PairItem, LineError>
     requires { IsItemOpening opening }
     ensures found { IfOk result (λ item.
