@@ -79,7 +79,7 @@ no_show : (event : PairEvent) → opening_of_event event ≡ opening_of_item ite
 no_show (events.Moment at) same = cc same
 no_show event same = cc same
 
-SaysItemAfter-same : (gateways : List PairGateway) (one other : PairItem) (line : List (List ℕ)) → opening_of_item one ≡ opening_of_item other
+pub SaysItemAfter-same : (gateways : List PairGateway) (one other : PairItem) (line : List (List ℕ)) → opening_of_item one ≡ opening_of_item other
     → SaysItemAfter gateways one line → SaysItemAfter gateways other line → one ≡ other
 SaysItemAfter-same gateways (items.Event one) (items.Event other) line same h k = ap (λ (event : PairEvent). items.Event event) (SaysEventAfter-same gateways one other line same h k)
 SaysItemAfter-same gateways items.Show items.Show line same h k = refl
