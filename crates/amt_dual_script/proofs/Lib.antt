@@ -1,0 +1,9 @@
+pub mod Beginnings
+pub mod GatewayLines
+pub mod Good
+pub mod Heard
+pub mod Judging
+pub mod Lawful
+pub mod Machines
+pub mod Running
+pub mod Unique
