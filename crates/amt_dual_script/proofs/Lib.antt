@@ -1,3 +1,12 @@
+pub mod Beginnings
 pub mod Counts
+pub mod GatewayLines
+pub mod Good
+pub mod Heard
+pub mod Judging
+pub mod Lawful
+pub mod Machines
+pub mod Running
 pub mod SetUp
 pub mod Steps
+pub mod Unique

@@ -48,7 +48,7 @@ opening_of_statement (statements.Setting setting) = Some openings.Set
 opening_of_statement (statements.Gateway gateway) = Some openings.Gateway
 opening_of_statement (statements.Item item) = opening_of_item item
 
-event_begins : (gateways : List PairGateway) (event : PairEvent) (line : List (List ℕ)) → SaysEventAfter gateways event line → BeginsAs (opening_of_event event) line
+pub event_begins : (gateways : List PairGateway) (event : PairEvent) (line : List (List ℕ)) → SaysEventAfter gateways event line → BeginsAs (opening_of_event event) line
 event_begins gateways (events.Moment at) line says = record { values = says.text ∷ []; parts = says.parts }
 event_begins gateways (events.Rotate secret) line says = record { values = says.text ∷ []; parts = says.parts }
 event_begins gateways (events.Packet bytes) line says = record { values = says.text ∷ []; parts = says.parts }
@@ -56,7 +56,7 @@ event_begins gateways (events.Socket name event) line says = record { name = nam
 event_begins gateways (events.Up number) line says = record { values = says.text ∷ []; parts = says.parts }
 event_begins gateways (events.Down number) line says = record { values = says.text ∷ []; parts = says.parts }
 
-item_begins : (gateways : List PairGateway) (item : PairItem) (line : List (List ℕ)) → SaysItemAfter gateways item line → BeginsAs (opening_of_item item) line
+pub item_begins : (gateways : List PairGateway) (item : PairItem) (line : List (List ℕ)) → SaysItemAfter gateways item line → BeginsAs (opening_of_item item) line
 item_begins gateways (items.Event event) line says = event_begins gateways event line says
 item_begins gateways items.Show line says = record { values = []; parts = says }
 

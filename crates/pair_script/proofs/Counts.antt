@@ -13,7 +13,7 @@ part_counted event member =
     length-map (sent_on member.host.settings (run_of_member member) event) _
     ∙ (length-map (answer_at member event).sends _ ∙ sym (length-map (answer_at member event).sends datagram_of))
 
-gateways_counted : (event : GatewayEvent) (members : List Member) → length (flat_map (upwards_on event) members) ≡ sum_by ups_in (gateway_parts event members)
+pub gateways_counted : (event : GatewayEvent) (members : List Member) → length (flat_map (upwards_on event) members) ≡ sum_by ups_in (gateway_parts event members)
 gateways_counted event [] = refl
 gateways_counted event (member ∷ members) =
     omega (
@@ -25,7 +25,7 @@ gateways_counted event (member ∷ members) =
     )
 
 -- the relay sends nothing in them
-no_downs : (event : GatewayEvent) (members : List Member) → sum_by downs_in (gateway_parts event members) ≡ 0
+pub no_downs : (event : GatewayEvent) (members : List Member) → sum_by downs_in (gateway_parts event members) ≡ 0
 no_downs event [] = refl
 no_downs event (member ∷ members) = omega (arith, sum_by-cons downs_in (gateway_part event member) (gateway_parts event members), no_downs event members)
 
@@ -34,15 +34,15 @@ all_pass [] = refl
 all_pass (member ∷ members) = ap (λ (more : List Member). member ∷ more) (all_pass members)
 
 -- an absent datagram counts as nothing
-absent_ups : (number : ℕ) (parts : List Part) → sum_by ups_in (or_absent number parts) ≡ sum_by ups_in parts
+pub absent_ups : (number : ℕ) (parts : List Part) → sum_by ups_in (or_absent number parts) ≡ sum_by ups_in parts
 absent_ups number [] = refl
 absent_ups number (first ∷ more) = refl
 
-absent_downs : (number : ℕ) (parts : List Part) → sum_by downs_in (or_absent number parts) ≡ sum_by downs_in parts
+pub absent_downs : (number : ℕ) (parts : List Part) → sum_by downs_in (or_absent number parts) ≡ sum_by downs_in parts
 absent_downs number [] = refl
 absent_downs number (first ∷ more) = refl
 
-reached_counted : (event : GatewayEvent) (reaches : Member → Bool) (course : Course)
+pub reached_counted : (event : GatewayEvent) (reaches : Member → Bool) (course : Course)
     → length (course.up ++ flat_map (upwards_on event) (filter reaches course.members)) ≡ length course.up + sum_by ups_in (gateway_parts event (filter reaches course.members))
 reached_counted event reaches course =
     omega (arith, length-append course.up (flat_map (upwards_on event) (filter reaches course.members)), gateways_counted event (filter reaches course.members))

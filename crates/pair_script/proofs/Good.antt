@@ -16,7 +16,7 @@ use Rattle.pair_script.specs.declared.opening.Opening.TheVariants as openings
 use Rattle.pair_script.specs.declared.script.PairItem.TheVariants as items
 use Rattle.pair_script.specs.declared.statement.PairStatement.TheVariants as statements
 
-some_and_none : {X : Type 0} → (o : Option X) → o ≡ None → IsSome o → ⊥
+pub some_and_none : {X : Type 0} → (o : Option X) → o ≡ None → IsSome o → ⊥
 some_and_none None none some = cc some
 some_and_none (Some x) none some = cc none
 
@@ -35,7 +35,7 @@ key_is_good setting values reason says fails =
 no_word : (setting : Setting) (values others texts : List (List ℕ)) (word : List ℕ) → values ≡ key_word (key_of setting) ∷ others → values ≡ word ∷ texts → word ≡ key_word (key_of setting)
 no_word setting values others texts word parts same = let both = sym same ∙ parts in cc both
 
-set_is_good : (given : List Setting) (before : List PairItem) (setting : Setting) (values : List (List ℕ)) (reason : Reason) → MaySet given before setting
+pub set_is_good : {I : Type 0} → (given : List Setting) (before : List I) (setting : Setting) (values : List (List ℕ)) (reason : Reason) → MaySet given before setting
     → SaysSetting setting (codes "set" ∷ values) → FailsToSet given before values reason → ⊥
 set_is_good given before setting values reasons.Word may says fails =
     let fit = setting_is_fit setting (codes "set" ∷ values) says in
@@ -83,7 +83,7 @@ no_empty_call family (gateway_events.Close name) call says = cc says.parts
 no_empty_call family gateway_events.LeaveAll call says = cc says
 no_empty_call family event call says = cc call
 
-call_is_said : (family : Family) (event : GatewayEvent) (values : List (List ℕ)) (reason : Reason) → is_some (call_in event) ≡ true → SaysEvent (Some family) event values
+pub call_is_said : (family : Family) (event : GatewayEvent) (values : List (List ℕ)) (reason : Reason) → is_some (call_in event) ≡ true → SaysEvent (Some family) event values
     → FailsToCall family values reason → ⊥
 call_is_said family event [] reason call says fails = no_empty_call family event call says
 call_is_said family event (word ∷ more) reason call says fails = call_is_good family event (word ∷ more) reason says call fails
@@ -104,7 +104,7 @@ event_is_good given gateways before (events.Up number) line reason says fails =
 event_is_good given gateways before (events.Down number) line reason says fails =
     one_fits a_moment says.text (moment_fits number says.text says.names) reason (opened_fails given gateways before openings.Down (says.text ∷ []) line reason says.parts fails)
 
-item_is_good : (given : List Setting) (gateways : List PairGateway) (before : List PairItem) (item : PairItem) (line : List (List ℕ)) (reason : Reason)
+pub item_is_good : (given : List Setting) (gateways : List PairGateway) (before : List PairItem) (item : PairItem) (line : List (List ℕ)) (reason : Reason)
     → SaysItemAfter gateways item line → FailsAfter given gateways before line reason → ⊥
 item_is_good given gateways before (items.Event event) line reason says fails = event_is_good given gateways before event line reason says fails
 item_is_good given gateways before items.Show line reason says fails =

@@ -38,7 +38,7 @@ named_fails given gateways items name gateway values line reason parts free give
     let none = subst (λ (n : List ℕ). gateway_named gateways n ≡ None) is_name found in
     cc (sym none ∙ given_as)
 
-same_reasons : (P Q : Reason → Type 0) (order : List Reason) → ((reason : Reason) → P reason ↔ Q reason) → AllByRecursion (λ reason. P reason ↔ Q reason) order
+pub same_reasons : (P Q : Reason → Type 0) (order : List Reason) → ((reason : Reason) → P reason ↔ Q reason) → AllByRecursion (λ reason. P reason ↔ Q reason) order
 same_reasons P Q [] same = tt
 same_reasons P Q (next ∷ more) same = (same next, same_reasons P Q more same)
 

@@ -1,3 +1,4 @@
+pub mod AnyGateways
 pub mod Beginnings
 pub mod Counts
 pub mod Found

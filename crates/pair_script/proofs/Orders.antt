@@ -10,7 +10,7 @@ use Rattle.script_lines.specs.declared.reason.Reason.TheVariants as reasons
 use Rattle.pair_script.specs.Fault.{FailsAsNumber, FailsToCall, order_of_reasons, order_of_values}
 
 -- what is tried after these reasons is tried in another order
-on_after : {R : Type 0} (P : R → Type 0) (before rest other : List R) (reason : R) → (First P rest reason → First P other reason)
+pub on_after : {R : Type 0} (P : R → Type 0) (before rest other : List R) (reason : R) → (First P rest reason → First P other reason)
     → First P (before ++ rest) reason → First P (before ++ other) reason
 on_after P [] rest other reason on first = on first
 on_after P (next ∷ before) rest other reason on (inl here) = inl here
@@ -47,7 +47,7 @@ with_names : (P : Reason → Type 0) (reason : Reason) → WithNames P
 with_names P reason none first = inr (none.0, inr (none.1, inr (none.2, first)))
 
 -- a line that fails for none of the first three reasons
-past_three : (P : Reason → Type 0) (reason : Reason) → (P reasons.Word → ⊥) → (P reasons.Late → ⊥) → (P reasons.Twice → ⊥) → First P order_of_values reason
+pub past_three : (P : Reason → Type 0) (reason : Reason) → (P reasons.Word → ⊥) → (P reasons.Late → ⊥) → (P reasons.Twice → ⊥) → First P order_of_values reason
     → First P order_of_reasons reason
 past_three P reason word late twice first = inr (word, inr (late, inr (twice, first)))
 
@@ -119,15 +119,15 @@ set_judged given items values reason first =
     )) first
 
 -- no form of any field fails for these
-form_late : (form : Form) → Never form reasons.Late
+pub form_late : (form : Form) → Never form reasons.Late
 form_late a_moment text h = h
 form_late form text h = h
 
-form_twice : (form : Form) → Never form reasons.Twice
+pub form_twice : (form : Form) → Never form reasons.Twice
 form_twice a_moment text h = h
 form_twice form text h = h
 
-all_never : (forms : List Form) (repeated : Option Form) (values : List (List ℕ)) (reason : Reason) → ((form : Form) → Never form reason)
+pub all_never : (forms : List Form) (repeated : Option Form) (values : List (List ℕ)) (reason : Reason) → ((form : Form) → Never form reason)
     → SomeFails forms repeated values reason → ⊥
 all_never forms repeated [] reason never h = h
 all_never [] None (text ∷ texts) reason never h = h

@@ -84,7 +84,7 @@ items_may_come settings past (statements.Item item ∷ said) (line ∷ ls) short
       (items_may_come settings (past ++ statements.Item item ∷ []) said ls short.1 each.2),
 )
 
-short_that_say : (ls : List (List ℕ)) → AllByRecursion IsShort ls → AllByRecursion IsShort (lines_that_say ls)
+pub short_that_say : (ls : List (List ℕ)) → AllByRecursion IsShort ls → AllByRecursion IsShort (lines_that_say ls)
 short_that_say ls short =
     recursion_from_All IsShort (lines_that_say ls)
     (All-filter (λ line. not (says_nothing (fields line))) IsShort ls (All-from_recursion IsShort ls short))

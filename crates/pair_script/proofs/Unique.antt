@@ -17,7 +17,7 @@ use Rattle.pair_script.{specs.declared.statement.PairStatement.{PairStatement}, 
 use Rattle.pair_script.specs.declared.script.PairItem.TheVariants as items
 use Rattle.pair_script.specs.declared.statement.PairStatement.TheVariants as statements
 
-same_family : (one other : Bool) → family_by one ≡ family_by other → one ≡ other
+pub same_family : (one other : Bool) → family_by one ≡ family_by other → one ≡ other
 same_family true true same = refl
 same_family true false same = cc same
 same_family false true same = cc same
@@ -79,7 +79,7 @@ no_show : (event : PairEvent) → opening_of_event event ≡ opening_of_item ite
 no_show (events.Moment at) same = cc same
 no_show event same = cc same
 
-SaysItemAfter-same : (gateways : List PairGateway) (one other : PairItem) (line : List (List ℕ)) → opening_of_item one ≡ opening_of_item other
+pub SaysItemAfter-same : (gateways : List PairGateway) (one other : PairItem) (line : List (List ℕ)) → opening_of_item one ≡ opening_of_item other
     → SaysItemAfter gateways one line → SaysItemAfter gateways other line → one ≡ other
 SaysItemAfter-same gateways (items.Event one) (items.Event other) line same h k = ap (λ (event : PairEvent). items.Event event) (SaysEventAfter-same gateways one other line same h k)
 SaysItemAfter-same gateways items.Show items.Show line same h k = refl

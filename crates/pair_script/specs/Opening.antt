@@ -15,6 +15,12 @@ opening_word openings.Show = codes "show"
 opening_word openings.Up = codes "up"
 opening_word openings.Down = codes "down"
 
+-- it begins a line that says what happens next or what is shown, and gives no setting and no gateway
+abbrev pub IsItemOpening : Opening → Type 0
+IsItemOpening openings.Set = ⊥
+IsItemOpening openings.Gateway = ⊥
+IsItemOpening opening = Unit {0}
+
 -- the word begins no such line
 abbrev pub IsFree : List ℕ → Type 0
 IsFree word = (opening : Opening) → word ≢ opening_word opening

@@ -2,9 +2,11 @@
 use Rattle.std.specs.{Prelude.{◌≡◌, ℕ, List, []}, List.{AllByRecursion}}
 use Rattle.amt_script.specs.{Reading.{IsAllowed}, declared.{script.RelayItem.{RelayItem}, setting.Setting.{Setting}}}
 use Rattle.amt_script.specs.declared.script.RelayItem.TheVariants as relay_items
+use Rattle.amt_pair.specs.declared.event.PairEvent.TheVariants as events
 use Rattle.relay_machine.specs.declared.event.Event.{Event, TheVariants.{Datagram, Limits, Moment, Packet, Rotate}}
 use Rattle.script_lines.specs.{Form.{IsMomentText}, Shape.{HasField}}
 use Rattle.pair_script.specs.{Script.{gateways_in, items_in, settings_in}, declared.{script.{PairGateway.{PairGateway}, PairItem.{PairItem}}, statement.PairStatement.{PairStatement}}}
+use Rattle.pair_script.specs.declared.script.PairItem.TheVariants as items
 
 -- these are the settings, gateways and items among the statements
 pub record AreThose (given : List Setting) (gateways : List PairGateway) (items : List PairItem) (said : List PairStatement) : Type 0 where
@@ -25,6 +27,11 @@ IsSharedEvent (Limits limits) = ⊥
 abbrev pub IsSharedItem : RelayItem → Type 0
 IsSharedItem (relay_items.Event event) = IsSharedEvent event
 IsSharedItem relay_items.Show = Unit {0}
+
+-- the item is no socket call
+abbrev pub NamesNoGateway : PairItem → Type 0
+NamesNoGateway (items.Event (events.Socket name event)) = ⊥
+NamesNoGateway item = Unit {0}
 
 -- the fields are one, and its text is that of the number
 abbrev pub IsNumberOf : List (List ℕ) → ℕ → Type 0

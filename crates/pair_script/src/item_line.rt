@@ -1,14 +1,16 @@
 //! The lines that say what happens to a relay and its gateways, by what follows their first word. It knows
 //! no gateway.
 
-ghost use Rattle.std.specs.Prelude.{◌∷◌, ℕ, List, IfOk, IfErr};
+ghost use Rattle.std.specs.Prelude.{[], ◌∷◌, ℕ, List, IfOk, IfErr};
 ghost use Rattle.amt_script.specs.{Fault.{FailsAs as RelayFails}, Says.{SaysItem as RelaySays}};
 ghost use Rattle.amt_script.specs.declared.kind.Kind.TheVariants as kinds;
 ghost use Rattle.script_lines.specs.{Lines.{fields}, Reading.{FailsFirst}};
-ghost use Rattle.pair_script.specs.{Fault.{FailsAsNumber, order_of_reasons}, Opening.{opening_word}, Reading.{IsNumberOf, IsSharedEvent, IsSharedItem}, Says.{SaysEventAfter, SaysItemAfter}, declared.script.PairGateway.{PairGateway as GatewayValue}};
+ghost use Rattle.pair_script.specs.{Fault.{FailsAfterOpening, FailsAsNumber, order_of_reasons}, Opening.{IsItemOpening, opening_word}, Reading.{IsNumberOf, IsSharedEvent, IsSharedItem, NamesNoGateway}, Says.{SaysEventAfter, SaysItemAfter}};
 ghost use Rattle.amt_script.specs.declared.script.RelayItem.TheVariants as relay_items;
 ghost use Rattle.pair_script.specs.declared.opening.Opening.TheVariants as openings;
+ghost use Rattle.pair_script.specs.declared.script.PairItem.TheVariants.{Event as EventItem};
 
+use crate::opening::Opening;
 use crate::script::PairItem;
 use amt_pair::PairEvent;
 use amt_script::{RelayItem, read_moment_item, read_packet, read_rotation, read_show};
@@ -19,8 +21,9 @@ use std::alloc::Global;
 // What a line of a relay's script says of a pair. No line of a pair's script says a datagram or new limits.
 fn shared_event(event: Event) -> PairEvent
     requires { IsSharedEvent event }
-    ensures { (gateways : List GatewayValue) (line : List (List ℕ)) → RelaySays (relay_items.Event event) line
-        → SaysEventAfter gateways result line }
+    ensures says { (line : List (List ℕ)) → RelaySays (relay_items.Event event) line
+        → SaysEventAfter [] result line }
+    ensures unnamed { NamesNoGateway (EventItem result) }
 {
     match event {
         Event::Moment(at) => PairEvent::Moment(at),
@@ -33,8 +36,9 @@ fn shared_event(event: Event) -> PairEvent
 
 fn shared_item(item: RelayItem) -> PairItem
     requires { IsSharedItem item }
-    ensures { (gateways : List GatewayValue) (line : List (List ℕ)) → RelaySays item line
-        → SaysItemAfter gateways result line }
+    ensures says { (line : List (List ℕ)) → RelaySays item line
+        → SaysItemAfter [] result line }
+    ensures unnamed { NamesNoGateway result }
 {
     match item {
         RelayItem::Event(event) => PairItem::Event(shared_event(event)),
@@ -42,10 +46,11 @@ fn shared_item(item: RelayItem) -> PairItem
     }
 }
 
-/// The item of a line `at MS`.
-pub fn read_moment_line(values: &[u8]) -> Result<PairItem, LineError>
-    ensures found { (gateways : List GatewayValue) → IfOk result (λ item.
-        SaysItemAfter gateways item (opening_word openings.Moment ∷ fields values.now)) }
+// The item of a line `at MS`.
+fn read_moment_line(values: &[u8]) -> Result<PairItem, LineError>
+    ensures found { IfOk result (λ item.
+        SaysItemAfter [] item (opening_word openings.Moment ∷ fields values.now)) }
+    ensures unnamed { IfOk result NamesNoGateway }
     ensures reason { IfErr result (FailsFirst (RelayFails kinds.Moment (fields values.now)) order_of_reasons) }
 {
     match read_moment_item(values) {
@@ -54,10 +59,11 @@ pub fn read_moment_line(values: &[u8]) -> Result<PairItem, LineError>
     }
 }
 
-/// The item of a line `secret HEX`.
-pub fn read_secret_line(values: &[u8]) -> Result<PairItem, LineError>
-    ensures found { (gateways : List GatewayValue) → IfOk result (λ item.
-        SaysItemAfter gateways item (opening_word openings.Secret ∷ fields values.now)) }
+// The item of a line `secret HEX`.
+fn read_secret_line(values: &[u8]) -> Result<PairItem, LineError>
+    ensures found { IfOk result (λ item.
+        SaysItemAfter [] item (opening_word openings.Secret ∷ fields values.now)) }
+    ensures unnamed { IfOk result NamesNoGateway }
     ensures reason { IfErr result (FailsFirst (RelayFails kinds.Secret (fields values.now)) order_of_reasons) }
 {
     match read_rotation(values) {
@@ -66,10 +72,11 @@ pub fn read_secret_line(values: &[u8]) -> Result<PairItem, LineError>
     }
 }
 
-/// The item of a line `mc HEX`.
-pub fn read_packet_line(alloc: Global, values: &[u8]) -> Result<PairItem, LineError>
-    ensures found { (gateways : List GatewayValue) → IfOk result (λ item.
-        SaysItemAfter gateways item (opening_word openings.Packet ∷ fields values.now)) }
+// The item of a line `mc HEX`.
+fn read_packet_line(alloc: Global, values: &[u8]) -> Result<PairItem, LineError>
+    ensures found { IfOk result (λ item.
+        SaysItemAfter [] item (opening_word openings.Packet ∷ fields values.now)) }
+    ensures unnamed { IfOk result NamesNoGateway }
     ensures reason { IfErr result (FailsFirst (RelayFails kinds.Packet (fields values.now)) order_of_reasons) }
 {
     match read_packet(alloc, values) {
@@ -78,10 +85,11 @@ pub fn read_packet_line(alloc: Global, values: &[u8]) -> Result<PairItem, LineEr
     }
 }
 
-/// The item of a line `show`.
-pub fn read_show_line(values: &[u8]) -> Result<PairItem, LineError>
-    ensures found { (gateways : List GatewayValue) → IfOk result (λ item.
-        SaysItemAfter gateways item (opening_word openings.Show ∷ fields values.now)) }
+// The item of a line `show`.
+fn read_show_line(values: &[u8]) -> Result<PairItem, LineError>
+    ensures found { IfOk result (λ item.
+        SaysItemAfter [] item (opening_word openings.Show ∷ fields values.now)) }
+    ensures unnamed { IfOk result NamesNoGateway }
     ensures reason { IfErr result (FailsFirst (RelayFails kinds.Show (fields values.now)) order_of_reasons) }
 {
     match read_show(values) {
@@ -90,8 +98,8 @@ pub fn read_show_line(values: &[u8]) -> Result<PairItem, LineError>
     }
 }
 
-/// The number of a datagram in a line `up K` or `down K`.
-pub fn read_datagram_number(values: &[u8]) -> Result<u64, LineError>
+// The number of a datagram in a line `up K` or `down K`.
+fn read_datagram_number(values: &[u8]) -> Result<u64, LineError>
     ensures found { IfOk result (IsNumberOf (fields values.now)) }
     ensures reason { IfErr result (FailsFirst (FailsAsNumber (fields values.now)) order_of_reasons) }
 {
@@ -101,5 +109,33 @@ pub fn read_datagram_number(values: &[u8]) -> Result<u64, LineError>
     match read_moment(text) {
         Some(number) => Ok(number.ms()),
         None => Err(LineError::Bad(Reason::Number)),
+    }
+}
+
+/// The item of a line that begins with this word, by what follows the word. It is the same whatever stands above
+/// the line, which names no gateway.
+pub fn read_item(alloc: Global, opening: Opening, values: &[u8]) -> Result<PairItem, LineError>
+    requires { IsItemOpening opening }
+    ensures found { IfOk result (λ item.
+        SaysItemAfter [] item (opening_word opening ∷ fields values.now)) }
+    ensures unnamed { IfOk result NamesNoGateway }
+    ensures reason { IfErr result
+        (FailsFirst (FailsAfterOpening [] [] [] opening (fields values.now)) order_of_reasons) }
+{
+    match opening {
+        Opening::Moment => read_moment_line(values),
+        Opening::Secret => read_secret_line(values),
+        Opening::Packet => read_packet_line(alloc, values),
+        Opening::Show => read_show_line(values),
+        Opening::Up => {
+            let number = read_datagram_number(values)?;
+            Ok(PairItem::Event(PairEvent::Up(number)))
+        }
+        Opening::Down => {
+            let number = read_datagram_number(values)?;
+            Ok(PairItem::Event(PairEvent::Down(number)))
+        }
+        Opening::Set => unreachable!(),
+        Opening::Gateway => unreachable!(),
     }
 }

@@ -18,7 +18,10 @@ mod script;
 mod statement;
 mod text;
 
+pub use item_line::read_item;
+pub use opening::{Opening, is_gateway_name, opening_of};
 pub use reading::read_pair_script;
 pub use replay::run_pair_script;
 pub use script::{PairGateway, PairGateways, PairItem, PairItems, PairScript};
 pub use script_lines::{Reason, RunFault, ScriptError};
+pub use text::append_parts;

@@ -6,9 +6,7 @@ ghost use Rattle.pair_script.specs.{Fault.{FailsAfter, FailsAfterOpening, order_
 
 use crate::call_line::read_call;
 use crate::gateway_line::read_gateway_line;
-use crate::item_line::{
-    read_datagram_number, read_moment_line, read_packet_line, read_secret_line, read_show_line,
-};
+use crate::item_line::read_item;
 use crate::opening::{Opening, opening_of};
 use crate::script::{PairGateway, PairItem};
 use crate::statement::PairStatement;
@@ -40,18 +38,10 @@ fn read_opened(
             Ok(gateway) => Ok(PairStatement::Gateway(gateway)),
             Err(error) => Err(error),
         },
-        Opening::Moment => Ok(PairStatement::Item(read_moment_line(values)?)),
-        Opening::Secret => Ok(PairStatement::Item(read_secret_line(values)?)),
-        Opening::Packet => Ok(PairStatement::Item(read_packet_line(alloc, values)?)),
-        Opening::Show => Ok(PairStatement::Item(read_show_line(values)?)),
-        Opening::Up => {
-            let number = read_datagram_number(values)?;
-            Ok(PairStatement::Item(PairItem::Event(PairEvent::Up(number))))
-        }
-        Opening::Down => {
-            let number = read_datagram_number(values)?;
-            Ok(PairStatement::Item(PairItem::Event(PairEvent::Down(number))))
-        }
+        _ => match read_item(alloc, opening, values) {
+            Ok(item) => Ok(PairStatement::Item(item)),
+            Err(error) => Err(error),
+        },
     }
 }
 

@@ -155,8 +155,8 @@ fn append_part(
     }
 }
 
-/// Puts the lines of the parts of an event of this number at the end, where so many datagrams were sent to
-/// the relay and by it before.
+/// Puts the lines of the parts of an event of this number at the end, where `up` datagrams were sent to the
+/// relay before and `down` by it.
 pub fn append_parts(
     alloc: Global,
     text: &mut Bytes,
