@@ -50,14 +50,7 @@ impl DualRun {
         if step.starved {
             return Err(AllocError);
         }
-        append_steps(
-            alloc,
-            held,
-            number,
-            self.up,
-            self.down,
-            step.parts,
-        )?;
+        append_steps(alloc, held, number, self.up, self.down, step.parts)?;
         self.up = step.up;
         self.down = step.down;
         Ok(())
