@@ -1,7 +1,7 @@
 -- A relay and its dual gateways after one more event.
 use Rattle.std.{proofs.{Common.{◌≡◌, ℕ, ◌+◌, List, [], ◌∷◌, ◌++◌, length, map, sym, subst, ap, ◌∙◌, append-nil, arith}, lemmas.List.{length-map, Elements.{filter_map-append}}}, specs.List.{sum_by}}
 use Rattle.relay_machine.specs.declared.sends.OneSend.{OneSend}
-use Rattle.amt_pair.specs.{Members.{kept_upward}, Schedule.{Course}, Setup.{Host, PairSetup}, declared.{datagrams.UpDatagram.{UpDatagram}, step.Part.{Part}}}
+use Rattle.amt_pair.specs.{Members.{kept_upward}, Schedule.{Course}, Setup.{Host, PairSetup}, declared.datagrams.UpDatagram.{UpDatagram}}
 use Rattle.pair_script.specs.Texts.{downs_in, parts_text, ups_in}
 use Rattle.amt_dual.{specs.{Parts.{dual_parts_of}, Schedule.{DualMayCome, dual_course_of, with_dual_pair_event}, Setup.{DualSetup, machines_in}, State.{DualPairAt, StandsFor, machines, sent_down, sent_up}, declared.{event.DualPairEvent.{DualPairEvent}, pair.DualPair.{DualPair}, step.DualPart.{DualPart}}}, proofs.DualCourses.{dual_course_of-more, dual_course_of-none, pair_machines}}
 use Rattle.amt_dual_script.{specs.{Running.{IsPairAfter}, Texts.{event_in, event_text, events_in, part_named}, declared.script.DualItem.{DualItem}}, proofs.Counts.{dual_downs_counted, dual_ups_counted}}
