@@ -1,5 +1,5 @@
 -- A schedule of a relay and its dual gateways. It leads to a course of a pair whose members are the machines, two a gateway.
-use Rattle.std.specs.{Prelude.{◌≡◌, ◌≤◌, ℕ, ◌&&◌, Bool, true, false, not, is_some, List, [], ◌∷◌, length, map, Contains, Option, Some, None}, List.{fold, list_any}}
+use Rattle.std.specs.{Prelude.{◌≡◌, ◌≤◌, ℕ, ◌&&◌, Bool, true, false, not, is_some, List, [], ◌∷◌, length, map, Contains, Option, Some, None, if◌then◌else◌}, List.{fold, list_any}}
 use Rattle.amt_values.specs.{EndpointValue.{EndpointValue}}
 use Rattle.gateway_machine.specs.{Answers.{call_in}, Events.{IsEventOf}, declared.event.GatewayEvent.{GatewayEvent}}
 use Rattle.relay_machine.specs.declared.sends.OneSend.{OneSend}
