@@ -1,4 +1,5 @@
 pub mod Beginnings
+pub mod Calls
 pub mod Counts
 pub mod GatewayLines
 pub mod Good

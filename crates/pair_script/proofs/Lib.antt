@@ -1,4 +1,3 @@
-pub mod AnyGateways
 pub mod Beginnings
 pub mod Counts
 pub mod Found
