@@ -1,5 +1,5 @@
 -- What has been said, one line more.
-use Rattle.std.proofs.{Common.{◌≡◌, ℕ, List, [], ◌∷◌, ◌++◌, refl, sym, ap, subst, ◌∙◌}, lemmas.List.Elements.{filter_map-append}}
+use Rattle.std.proofs.{Common.{ℕ, List, [], ◌∷◌, ◌++◌, refl, sym, ap, subst, ◌∙◌}, lemmas.List.Elements.{filter_map-append}}
 use Rattle.amt_script.specs.{Reading.{IsAllowed}, declared.setting.Setting.{Setting}}
 use Rattle.script_lines.specs.{Reading.{FailsFirst}, declared.fault.LineError.{LineError}}
 use Rattle.pair_script.{specs.Fault.{order_of_reasons}, proofs.Heard.{allowed_more, none_more}}

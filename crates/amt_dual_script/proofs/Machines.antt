@@ -1,5 +1,5 @@
 -- The machines of the gateways that lines give.
-use Rattle.std.{proofs.{Common.{◌≡◌, ◌||◌, ℕ, Bool, true, false, List, [], ◌∷◌, ◌++◌, map, refl, sym, ap, ◌∙◌, arith}, lemmas.List.{Elements.{Contains-append_right}, Folds.{list_any-append}}}, specs.List.{Contains, flat_map}}
+use Rattle.std.{proofs.{Common.{◌≡◌, ◌||◌, ℕ, Bool, true, false, List, [], ◌∷◌, ◌++◌, map, refl, sym, ◌∙◌, arith}, lemmas.List.{Elements.{Contains-append_right}, Folds.{list_any-append}}}, specs.List.{Contains, flat_map}}
 use Rattle.relay_machine.specs.declared.settings.Settings.{Settings}
 use Rattle.socket_merge.{specs.History.{same_name}, proofs.Amounts.{same_name-exact}}
 use Rattle.amt_pair.specs.Setup.{Host}
