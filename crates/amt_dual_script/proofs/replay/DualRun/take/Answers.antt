@@ -1,4 +1,4 @@
-use Rattle.std.{proofs.Common.{◌<◌, ◌^◌, ◌++◌, List, ℕ, ap, ◌∙◌, rules, arith}, specs.List.{sum_by}}
+use Rattle.std.proofs.Common.{◌<◌, ◌^◌, ◌++◌, List, ℕ, ap, ◌∙◌, rules, arith}
 use Rattle.amt_dual.specs.{Schedule.{dual_course_of}, Setup.{machines_in}}
 use Rattle.amt_dual_script.{specs.Texts.{events_in}, proofs.Steps.{downs_after, may_come, one_more, text_is, ups_after}}
 use Rattle.amt_dual_script.proofs.replay.DualRun.take.Goals as goal
