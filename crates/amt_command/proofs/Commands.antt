@@ -2,13 +2,14 @@
 use Rattle.std.proofs.Common.{◌≡◌, ℕ, List, [], ◌∷◌, Option, Some, None, inl, inr, refl, sym, subst, arith}
 use Rattle.script_lines.{specs.{Kind.{IsLawfulKind, Kind}, Script.{IsErrorOf, RulesOutScripts, Spells}, declared.fault.ScriptError.{ScriptError}}, proofs.Verdicts.{one_fault, one_script}}
 use Rattle.script_lines.specs.declared.fault.ScriptError.TheVariants as errors
+use Rattle.amt_dual_script.{proofs.Lawful.{dual_kind_lawful}, specs.Script.{dual_kind}}
 use Rattle.amt_dump.{proofs.Lawful.{dump_kind_lawful, one_dump}, specs.Lines.{dump_kind}}
 use Rattle.amt_pcap.proofs.Unique.{IsCapture-unique}
 use Rattle.amt_script.{proofs.Lawful.{relay_kind_lawful}, specs.Script.{relay_kind}}
 use Rattle.amt_vectors.{proofs.{Lawful.{vector_kind_lawful}, Reports.{report_unique}}, specs.Kind.{vector_kind}}
 use Rattle.gateway_script.{proofs.Lawful.{gateway_kind_lawful}, specs.Script.{gateway_kind}}
 use Rattle.pair_script.{proofs.Lawful.{pair_kind_lawful}, specs.Script.{pair_kind}}
-use Rattle.amt_words.specs.{declared.command.{Command.{Command, TheVariants.{Dns, Dump, Load, Pcap, Replay, Vectors, Gateway as GatewayServing, Relay as RelayServing}}, Replayable.TheVariants.{Gateway, Pair, Relay, Upstream}}, Line.{IsAccepted, IsCommandLine}, Usage.{dns_usage, dump_usage, gateway_usage, load_usage, pcap_usage, relay_usage, replay_usage, vectors_usage}}
+use Rattle.amt_words.specs.{declared.command.{Command.{Command, TheVariants.{Dns, Dump, Load, Pcap, Replay, Vectors, Gateway as GatewayServing, Relay as RelayServing}}, Replayable.TheVariants.{Dual, Gateway, Pair, Relay, Upstream}}, Line.{IsAccepted, IsCommandLine}, Usage.{dns_usage, dump_usage, gateway_usage, load_usage, pcap_usage, relay_usage, replay_usage, vectors_usage}}
 use Rattle.amt_ports.specs.declared.files.Files.{Ghosts as FilesTell}
 use Rattle.serving_commands.specs.Lives.{Tells}
 use Rattle.amt_command.proofs.{Captures.{one_capture_cause, one_captured, one_relay_cause}, Lookups.{one_cause, one_lookup}}
@@ -18,6 +19,7 @@ pub one_value_of : (command : Command) → HasOneValue (work_of command)
 one_value_of (Replay Relay) = one_script relay_kind relay_kind_lawful
 one_value_of (Replay Gateway) = one_script gateway_kind gateway_kind_lawful
 one_value_of (Replay Pair) = one_script pair_kind pair_kind_lawful
+one_value_of (Replay Dual) = one_script dual_kind dual_kind_lawful
 one_value_of (Replay Upstream) = one_script relay_kind relay_kind_lawful
 one_value_of Dump = one_dump
 one_value_of Vectors = report_unique
@@ -38,6 +40,7 @@ pub one_fault_of : (command : Command) → HasOneFaultFor (work_of command)
 one_fault_of (Replay Relay) = one_line relay_kind relay_kind_lawful
 one_fault_of (Replay Gateway) = one_line gateway_kind gateway_kind_lawful
 one_fault_of (Replay Pair) = one_line pair_kind pair_kind_lawful
+one_fault_of (Replay Dual) = one_line dual_kind dual_kind_lawful
 one_fault_of (Replay Upstream) = one_line relay_kind relay_kind_lawful
 one_fault_of Dump = one_line dump_kind dump_kind_lawful
 one_fault_of Vectors = one_line vector_kind vector_kind_lawful

@@ -1,20 +1,21 @@
 -- The commands, by what each does, and the statuses of `amt`.
 use Rattle.std.specs.{Prelude.{ℕ, ◌==◌, List, [], ◌∷◌, ◌++◌, None, Some, IsTrue, codes, if◌then◌else◌}, List.{list_any}}
 use Rattle.amt_dns.specs.Texts.{dns_text}
+use Rattle.amt_dual_script.specs.{Script.{dual_kind}, Texts.{dual_script_text}, declared.script.DualScript.{DualScript}}
 use Rattle.amt_dump.specs.{Dump.{IsDump}, Lines.{dump_kind}}
 use Rattle.amt_pcap.specs.{declared.capture.Capture.{Capture}, Capture.{IsCapture}, Texts.{capture_lines_text, capture_script_text}}
 use Rattle.amt_ports.specs.Causes.{Rose}
 use Rattle.amt_script.specs.{Script.{relay_kind}, Texts.{relay_script_text}, declared.script.RelayScript.{RelayScript}}
 use Rattle.amt_vectors.specs.{Kind.{vector_kind}, Report.{IsVectorsReport}, Texts.{difference_of, suite_text}, declared.report.SuiteReport.{SuiteReport}}
-use Rattle.amt_words.specs.declared.command.{Command.{Command, TheVariants.{Dns, Dump, Load, Pcap, Replay, Vectors, Gateway as GatewayServing, Relay as RelayServing}}, Replayable.TheVariants.{Gateway, Pair, Relay, Upstream}}
+use Rattle.amt_words.specs.declared.command.{Command.{Command, TheVariants.{Dns, Dump, Load, Pcap, Replay, Vectors, Gateway as GatewayServing, Relay as RelayServing}}, Replayable.TheVariants.{Dual, Gateway, Pair, Relay, Upstream}}
 use Rattle.gateway_script.specs.{Script.{gateway_kind}, Texts.{gateway_script_text}, declared.script.GatewayScript.{GatewayScript}}
 use Rattle.pair_script.specs.{Script.{pair_kind}, Texts.{pair_script_text}, declared.script.PairScript.{PairScript}}
 use Rattle.relay_load.specs.{Counts.{summary_of}, Script.{load_script_of}, Texts.{load_text}}
 use Rattle.upstream_script.specs.Texts.{upstream_script_text}
 use Rattle.amt_command.specs.{declared.{dns.Lookup.{Lookup}, pcap.CapturedRelay.{CapturedRelay}}, Dns.{IsLookup, TellsLookup}, Pcap.{IsCaptureCause, IsCapturedRelay, IsRelayCause, TellsCapture}, Task.{TellsLine, Task, Work, making, reading, replay_task, serving}}
 
--- relay, gateway and pair scripts, each with the text of its run, and relay scripts with what the relay's own network
--- has to hear besides
+-- scripts of a relay, of a gateway, and of both ends with gateways of one family or of both, each with the text of its
+-- run, and relay scripts with what the relay's own network has to hear besides
 abbrev pub relay_task : Task RelayScript
 relay_task = replay_task relay_kind relay_script_text
 
@@ -23,6 +24,9 @@ gateway_task = replay_task gateway_kind gateway_script_text
 
 abbrev pub pair_task : Task PairScript
 pair_task = replay_task pair_kind pair_script_text
+
+abbrev pub dual_task : Task DualScript
+dual_task = replay_task dual_kind dual_script_text
 
 abbrev pub upstream_task : Task RelayScript
 upstream_task = replay_task relay_kind upstream_script_text
@@ -67,6 +71,7 @@ abbrev pub work_of : Command → Work
 work_of (Replay Relay) = reading RelayScript relay_task
 work_of (Replay Gateway) = reading GatewayScript gateway_task
 work_of (Replay Pair) = reading PairScript pair_task
+work_of (Replay Dual) = reading DualScript dual_task
 work_of (Replay Upstream) = reading RelayScript upstream_task
 work_of Dump = reading (List ℕ) dump_task
 work_of Vectors = reading SuiteReport vectors_task

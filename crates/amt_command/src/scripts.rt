@@ -1,9 +1,10 @@
 //! Scripts are replayed: each kind is read and run by its own crate. It knows no line.
 
-ghost use Rattle.amt_command.specs.Command.{gateway_task, pair_task, relay_task, upstream_task};
+ghost use Rattle.amt_command.specs.Command.{dual_task, gateway_task, pair_task, relay_task, upstream_task};
 
 use crate::fault::line_fault;
 use crate::task::{HasTask, TaskFault};
+use amt_dual_script::{DualScript, read_dual_script, run_dual_script};
 use amt_ports::Sink;
 use amt_script::{RelayScript, read_relay_script, run_relay_script};
 use amt_values::Bytes;
@@ -124,6 +125,44 @@ impl HasTask for PairReplay {
         out: &mut O,
     ) -> Result<(), RunFault> {
         run_pair_script(alloc, script, out)
+    }
+}
+
+/// Scripts of a relay and its gateways, each of both families.
+#[derive(Drop)]
+pub struct DualReplay {}
+
+impl HasTask for DualReplay {
+    ghost use Rattle.amt_dual_script.specs.Running.{IsRunnable};
+
+    type Value = DualScript;
+
+    ghost task = { λ task. dual_task };
+
+    ghost CanWrite = { λ script. IsRunnable script };
+
+    fn read(&self, alloc: Global, bytes: &[u8]) -> Result<DualScript, TaskFault> {
+        match read_dual_script(alloc, bytes) {
+            Ok(value) => Ok(value),
+            Err(error) => Err(line_fault(alloc, error)),
+        }
+    }
+
+    fn difference(
+        &self,
+        _alloc: Global,
+        _script: &DualScript,
+    ) -> Result<Option<Bytes>, AllocError> {
+        Ok(None)
+    }
+
+    fn write<O: Sink>(
+        &self,
+        alloc: Global,
+        script: &DualScript,
+        out: &mut O,
+    ) -> Result<(), RunFault> {
+        run_dual_script(alloc, script, out)
     }
 }
 

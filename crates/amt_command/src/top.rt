@@ -14,7 +14,7 @@ use crate::gateway::serve_gateway_file;
 use crate::pcap::{CaptureLines, CaptureScript};
 use crate::relay::serve_relay_file;
 use crate::running::{run_task, write_load};
-use crate::scripts::{GatewayReplay, PairReplay, RelayReplay, UpstreamReplay};
+use crate::scripts::{DualReplay, GatewayReplay, PairReplay, RelayReplay, UpstreamReplay};
 use crate::texts::{Dump, Vectors};
 use amt_ports::{Files, Sink, Source, write_all_own};
 use amt_words::{Command, Replayable, Word, WordsFault, read_words};
@@ -38,6 +38,7 @@ fn replay<S: Source, O: Sink>(
         Replayable::Relay => run_task(&RelayReplay {}, alloc, input, out),
         Replayable::Gateway => run_task(&GatewayReplay {}, alloc, input, out),
         Replayable::Pair => run_task(&PairReplay {}, alloc, input, out),
+        Replayable::Dual => run_task(&DualReplay {}, alloc, input, out),
         Replayable::Upstream => run_task(&UpstreamReplay {}, alloc, input, out),
     }
 }

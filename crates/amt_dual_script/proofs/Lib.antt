@@ -1,0 +1,13 @@
+pub mod Beginnings
+pub mod Calls
+pub mod Counts
+pub mod GatewayLines
+pub mod Good
+pub mod Heard
+pub mod Judging
+pub mod Lawful
+pub mod Machines
+pub mod Running
+pub mod SetUp
+pub mod Steps
+pub mod Unique

@@ -21,7 +21,7 @@ pub record IsRunnable (script : DualScript) : Type 0 where
   pub gateways : CanBeAdded [] script.gateways
   pub items : AllByRecursion (IsItem (machines_in (setup_of script)).hosts) script.items
 
--- from this start the items lead to the pair, and so many datagrams were sent to the relay and by it
+-- from this start the items lead to the pair, and `up` datagrams were sent to the relay and `down` by it
 pub record IsPairAfter (pair : DualPair) (up down : ℕ) (start : DualSetup) (items : List DualItem) : Type 0 where
   pub at : StandsFor pair (machines_in start) (dual_course_of start (events_in items))
   pub up_is : up ≡ sent_up pair

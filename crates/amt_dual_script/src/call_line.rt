@@ -1,8 +1,9 @@
 //! The lines that begin with the name of a gateway. It knows no settings.
 
-ghost use Rattle.std.specs.Prelude.{◌≤◌, ◌∷◌, List, length, IfOk, IfErr};
+ghost use Rattle.std.specs.Prelude.{◌≡◌, ◌≤◌, ◌∷◌, List, length, IfOk, IfErr};
 ghost use Rattle.amt_script.specs.declared.setting.Setting.{Setting as SettingValue};
 ghost use Rattle.script_lines.specs.{Lines.{fields}, Reading.{FailsFirst}};
+ghost use Rattle.socket_merge.specs.FullReport.{family_by};
 ghost use Rattle.pair_script.specs.{Fault.{order_of_reasons}, Opening.{IsFree}};
 ghost use Rattle.amt_dual_script.specs.{Fault.{FailsAfter}, Says.{SaysEventAfter}, declared.script.DualItem.{DualItem as ItemValue}};
 
@@ -14,6 +15,12 @@ use gateway_script::read_socket_call;
 use group_records::Family;
 use script_lines::{LineError, Reason, next_field, read_family};
 use std::alloc::Global;
+
+fn is_v6(family: Family) -> bool
+    ensures { family_by result ≡ family }
+{
+    family == Family::V6
+}
 
 /// The socket call of a line `NAME v4 LINE` or `NAME v6 LINE` that begins with the name of one of these gateways.
 pub fn read_call(
@@ -48,7 +55,7 @@ pub fn read_call(
     match Bytes::copied(alloc, name) {
         Ok(name) => Ok(DualPairEvent::Socket {
             name,
-            v6: family == Family::V6,
+            v6: is_v6(family),
             event,
         }),
         Err(_) => Err(LineError::Memory),

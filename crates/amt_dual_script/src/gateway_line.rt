@@ -1,7 +1,8 @@
 //! The lines that give gateways of both families. It knows no other line.
 
-ghost use Rattle.std.specs.Prelude.{◌≢◌, ◌↔◌, ◌≡◌, ◌∷◌, [], IsTrue, length, codes, IfOk, IfErr, IfSome, IfNone};
-ghost use Rattle.script_lines.specs.{Lines.{fields}, Reading.{FailsFirst}};
+ghost use Rattle.std.specs.Prelude.{◌≢◌, ◌↔◌, ◌≡◌, ◌⊎◌, ◌∷◌, [], IsTrue, length, codes, IfOk, IfErr, IfSome, IfNone};
+ghost use Rattle.amt_values.specs.{Text.{IsIpText}, declared.address.Ip.TheVariants.{V4, V6}};
+ghost use Rattle.script_lines.specs.{Form.{Fails, an_address4, an_address6}, Lines.{fields}, Reading.{FailsFirst}};
 ghost use Rattle.pair_script.specs.Fault.{order_of_reasons, order_of_values};
 ghost use Rattle.amt_dual_script.specs.{Fault.{FailsAsGateway, FailsToAdd, IsGivenTwice, RepeatsPeer}, Says.{SaysGateway}, Script.{MayAdd}};
 
@@ -69,6 +70,21 @@ fn texts_of(values: &[u8]) -> Option<GatewayTexts<'_>>
     }
 }
 
+// The source of IGMPv3 reports, and that of MLDv2 reports: an address of either family.
+fn read_sources(text4: &[u8], text6: &[u8]) -> Option<(u32, u128)>
+    ensures found4 { IfSome result (λ sources. IsIpText (V4 sources.0) text4.now) }
+    ensures found6 { IfSome result (λ sources. IsIpText (V6 sources.1) text6.now) }
+    ensures none { IfNone result (Fails an_address4 text4.now Reason.Address ⊎ Fails an_address6 text6.now Reason.Address) }
+{
+    let Some(source4) = read_address4(text4) else {
+        return None;
+    };
+    let Some(source6) = read_address6(text6) else {
+        return None;
+    };
+    Some((source4, source6))
+}
+
 // The gateway of these fields.
 fn read_gateway(alloc: Global, values: &[u8]) -> Result<DualGateway, LineError>
     ensures found { IfOk result (λ gateway. SaysGateway gateway (codes "gateway" ∷ fields values.now)) }
@@ -77,10 +93,7 @@ fn read_gateway(alloc: Global, values: &[u8]) -> Result<DualGateway, LineError>
     let Some(texts) = texts_of(values) else {
         return Err(LineError::Bad(Reason::Count));
     };
-    let Some(source4) = read_address4(texts.source4) else {
-        return Err(LineError::Bad(Reason::Address));
-    };
-    let Some(source6) = read_address6(texts.source6) else {
+    let Some((source4, source6)) = read_sources(texts.source4, texts.source6) else {
         return Err(LineError::Bad(Reason::Address));
     };
     let Some(peer) = parse_peer(texts.peer) else {

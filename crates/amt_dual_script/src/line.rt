@@ -2,8 +2,8 @@
 
 ghost use Rattle.std.specs.Prelude.{◌≤◌, ◌∷◌, length, List, ℕ, [], IfOk, IfErr};
 ghost use Rattle.script_lines.specs.{Lines.{fields}, Reading.{FailsFirst}};
-ghost use Rattle.pair_script.specs.{Fault.{order_of_reasons}, Opening.{opening_word}, Says.{SaysItemAfter as PairSaysItem}};
-ghost use Rattle.amt_dual_script.specs.{Fault.{FailsAfter, FailsAfterOpening}, Says.{SaysItemAfter}, Script.{SaysAfter}, declared.script.DualGateway.{DualGateway as GatewayValue}};
+ghost use Rattle.pair_script.specs.{Fault.{order_of_reasons}, Opening.{opening_word}, Reading.{NamesNoGateway}, Says.{SaysEventAfter as PairSaysEvent, SaysItemAfter as PairSaysItem}, declared.script.PairItem.TheVariants.{Event as EventItem}};
+ghost use Rattle.amt_dual_script.specs.{Fault.{FailsAfter, FailsAfterOpening}, Says.{SaysEventAfter, SaysItemAfter}, Script.{SaysAfter}, declared.script.DualGateway.{DualGateway as GatewayValue}};
 
 use crate::call_line::read_call;
 use crate::gateway_line::read_gateway_line;
@@ -18,6 +18,9 @@ use std::alloc::Global;
 
 // What a line of a pair's script that names no gateway says here.
 fn shared_event(event: PairEvent) -> DualPairEvent
+    requires { NamesNoGateway (EventItem event) }
+    ensures { (gateways : List GatewayValue) (line : List (List ℕ)) → PairSaysEvent [] event line
+        → SaysEventAfter gateways result line }
 {
     match event {
         PairEvent::Moment(at) => DualPairEvent::Moment(at),
@@ -25,13 +28,12 @@ fn shared_event(event: PairEvent) -> DualPairEvent
         PairEvent::Packet { bytes } => DualPairEvent::Packet { bytes },
         PairEvent::Up(number) => DualPairEvent::Up(number),
         PairEvent::Down(number) => DualPairEvent::Down(number),
-        // A line of such an event begins with a gateway's name.
         PairEvent::Socket { .. } => unreachable!(),
     }
 }
 
 fn shared_item(item: PairItem) -> DualItem
-    requires { (line : List (List ℕ)) → PairSaysItem [] item line → PairSaysItem [] item line }
+    requires { NamesNoGateway item }
     ensures { (gateways : List GatewayValue) (line : List (List ℕ)) → PairSaysItem [] item line
         → SaysItemAfter gateways result line }
 {
@@ -64,10 +66,10 @@ fn read_opened(
             Ok(gateway) => Ok(DualStatement::Gateway(gateway)),
             Err(error) => Err(error),
         },
-        _ => {
-            let item = read_item(alloc, opening, values)?;
-            Ok(DualStatement::Item(shared_item(item)))
-        }
+        _ => match read_item(alloc, opening, values) {
+            Ok(item) => Ok(DualStatement::Item(shared_item(item))),
+            Err(error) => Err(error),
+        },
     }
 }
 

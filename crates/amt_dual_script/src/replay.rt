@@ -10,7 +10,7 @@ ghost use Rattle.amt_dual_script.specs.{Running.{AfterItems, CanBeAdded, CanTake
 
 use crate::script::{DualItem, DualScript};
 use crate::text::append_steps;
-use amt_dual::{DualPair, DualPairEvent, DualFault};
+use amt_dual::{DualFault, DualPair, DualPairEvent};
 use amt_ports::Sink;
 use amt_script::write_rows;
 use amt_values::Bytes;
@@ -50,14 +50,7 @@ impl DualRun {
         if step.starved {
             return Err(AllocError);
         }
-        append_steps(
-            alloc,
-            held,
-            number,
-            self.up,
-            self.down,
-            step.parts,
-        )?;
+        append_steps(alloc, held, number, self.up, self.down, step.parts)?;
         self.up = step.up;
         self.down = step.down;
         Ok(())
@@ -116,7 +109,7 @@ fn write_shown<O: Sink>(
 }
 
 impl ScriptRun for DualRun {
-    ghost use Rattle.amt_dual.specs.Setup.{DualSetup};
+    ghost use Rattle.amt_dual.specs.Setup.{DualSetup, machines_in};
     ghost use Rattle.amt_dual_script.specs.{Running.{IsItem, IsPairAfter}, Texts.{item_text}};
 
     type Item = DualItem;
@@ -125,7 +118,7 @@ impl ScriptRun for DualRun {
 
     ghost IsAfter = { λ run start before. IsPairAfter run.pair run.up run.down start before };
 
-    ghost MayCome = { λ start item. IsItem start.hosts item };
+    ghost MayCome = { λ start item. IsItem (machines_in start).hosts item };
 
     ghost text_of = { λ start before number item. item_text start before number item };
 

@@ -17,11 +17,7 @@ fn machine_name(name: Bytes, v6: bool) -> Result<Bytes, AllocError>
     ensures { IfOk result (λ both. both ≡ name ++ (codes " " ++ family_text (family_by v6))) }
 {
     let mut both = name;
-    if v6 {
-        both.append(b" v6")?;
-    } else {
-        both.append(b" v4")?;
-    }
+    both.append(if v6 { b" v6" } else { b" v4" })?;
     Ok(both)
 }
 
@@ -45,13 +41,13 @@ fn parts_named(alloc: Global, parts: DualParts) -> Result<Vec<Part>, AllocError>
 {
     let mut named = Vec::with_capacity(alloc, parts.len())?;
     for part in parts.into_vec() {
-        named.push_reserved(part_named(part)?);
+        named.push(part_named(part)?)?;
     }
     Ok(named)
 }
 
-/// Puts the lines of the parts of an event of this number at the end, where so many datagrams were sent to
-/// the relay and by it before.
+/// Puts the lines of the parts of an event of this number at the end, where `up` datagrams were sent to the
+/// relay before and `down` by it.
 pub fn append_steps(
     alloc: Global,
     text: &mut Bytes,

@@ -1,7 +1,7 @@
--- The subcommand that `replay` enters has one of its four names.
+-- The subcommand that `replay` enters has one of its five names.
 use Rattle.std.{proofs.Common.{◌≡◌, ◌∙◌, Bool, true, false, List, [], ◌∷◌, Option, Some, None, cond, refl, sym, subst, ap}, specs.{Prelude.{⊤, find, option_map, Box}, Global.{Global}, Box.{box_value}}}
 use Rattle.clap.specs.{Words.{App, Row, Shape, Text, subcommand_rows, subcommand_rows_of, subcommand_of}, Matches.{subcommand_name_of}, Simple.{argument_words, built, entered, label_of, names_of, rows_at}, Walk.{answers_to, stop_after}, declared.parser.matches.{ArgMatches.{ArgMatches, TheViews.{out-ArgMatches, out-SubCommand}}, SubCommand.{SubCommand}}}
-use Rattle.amt_words.specs.{declared.command.Replayable.{Replayable, TheVariants.{Relay, Gateway, Pair, Upstream}}, Line.{replayed_name}, Usage.{replay_usage, replayable_name}}
+use Rattle.amt_words.specs.{declared.command.Replayable.{Replayable, TheVariants.{Relay, Gateway, Pair, Dual, Upstream}}, Line.{replayed_name}, Usage.{replay_usage, replayable_name}}
 
 -- every item of a list has a property
 abbrev Each : {X : Type 0} → (X → Type 0) → List X → Type 0
@@ -38,7 +38,7 @@ named (Some p) x e = go (find (λ s. answers_to p.0 (label_of s)) (built replay_
     go None is f = cc
     go (Some s) is f =
         let known = find_keeps IsKnown (λ t. answers_to p.0 (label_of t)) (built replay_usage).subs s
-        ((Relay, refl), ((Gateway, refl), ((Pair, refl), ((Upstream, refl), tt)))) is in
+        ((Relay, refl), ((Gateway, refl), ((Pair, refl), ((Dual, refl), ((Upstream, refl), tt))))) is in
         named_row x (rows_at s p.1) known.0 f known.1
 
 -- the subcommand that the words after `replay` name is one that can be replayed

@@ -10,6 +10,7 @@ unfolding clap_on_literals
 replay_line kinds.Relay = (refl, refl, refl)
 replay_line kinds.Gateway = (refl, refl, refl)
 replay_line kinds.Pair = (refl, refl, refl)
+replay_line kinds.Dual = (refl, refl, refl)
 replay_line kinds.Upstream = (refl, refl, refl)
 
 pub dump_line : IsCommandLine Dump (codes "dump" ∷ [])

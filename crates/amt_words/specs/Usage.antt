@@ -2,7 +2,7 @@
 use Rattle.std.specs.Prelude.{◌≡◌, ℕ, List, [], ◌∷◌, Some, true, pos, codes}
 use Rattle.clap.specs.{Words.{App, Rule, Text, fault_of, new_app, new_rule, with_rule, with_subcommand}, Simple.{new_shape, on_top}, declared.builder.action.ArgAction.TheVariants.{Set}}
 use Rattle.clap.specs.declared.builder.value_parser.ValueParser.TheVariants as parsers
-use Rattle.amt_words.specs.declared.command.Replayable.{Replayable, TheVariants.{Relay, Gateway, Pair, Upstream}}
+use Rattle.amt_words.specs.declared.command.Replayable.{Replayable, TheVariants.{Relay, Gateway, Pair, Dual, Upstream}}
 
 -- a name with nothing after it: no argument, and no flag that asks for help or the version
 abbrev pub bare_usage : Text → App
@@ -36,11 +36,12 @@ option_rule id least most = record (new_rule id) {
   parser = Some (parsers.Signed (pos least) (pos most));
 }
 
--- replay relay|gateway|pair|upstream
+-- replay relay|gateway|pair|dual|upstream
 abbrev pub replayable_name : Replayable → Text
 replayable_name Relay = codes "relay"
 replayable_name Gateway = codes "gateway"
 replayable_name Pair = codes "pair"
+replayable_name Dual = codes "dual"
 replayable_name Upstream = codes "upstream"
 
 -- `replay` alone: one of its subcommands has to follow, and there is none for help
@@ -55,7 +56,7 @@ with_replayable usage kind = with_subcommand usage (new_shape (replayable_name k
 
 abbrev pub replay_usage : App
 replay_usage =
-    with_replayable (with_replayable (with_replayable (with_replayable replay_head Relay) Gateway) Pair) Upstream
+    with_replayable (with_replayable (with_replayable (with_replayable (with_replayable replay_head Relay) Gateway) Pair) Dual) Upstream
 
 -- dump
 abbrev pub dump_usage : App

@@ -9,6 +9,8 @@ pub enum Replayable {
     Gateway,
     /// A relay and its gateways.
     Pair,
+    /// A relay and its gateways, each of both families.
+    Dual,
     /// A relay, with what its own network has to hear.
     Upstream,
 }

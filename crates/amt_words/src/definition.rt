@@ -43,7 +43,8 @@ pub fn replay_definition<'a>(alloc: Global) -> Result<clap::Command<'a>, AllocEr
     let relay = with_replayable(alloc, head, "relay")?;
     let gateway = with_replayable(alloc, relay, "gateway")?;
     let pair = with_replayable(alloc, gateway, "pair")?;
-    with_replayable(alloc, pair, "upstream")
+    let dual = with_replayable(alloc, pair, "dual")?;
+    with_replayable(alloc, dual, "upstream")
 }
 
 fn seed_argument<'a>(alloc: Global) -> Arg<'a>

@@ -1,4 +1,4 @@
-//! `replay relay|gateway|pair|upstream`. It knows no script.
+//! `replay relay|gateway|pair|dual|upstream`. It knows no script.
 
 ghost use Rattle.std.specs.Prelude.{◌≡◌, ◌≢◌, Some, map, string_bytes, IfOk, IsErrOf, IfSome, IfNone};
 ghost use Rattle.amt_words.specs.{declared.command.Replayable.{Replayable as ReplayableValue}, Line.{replayed_name}, Usage.{Takes, replay_usage, replayable_name}};
@@ -16,6 +16,7 @@ fn replayable_of(name: &str) -> Option<Replayable>
         "relay" => Some(Replayable::Relay),
         "gateway" => Some(Replayable::Gateway),
         "pair" => Some(Replayable::Pair),
+        "dual" => Some(Replayable::Dual),
         "upstream" => Some(Replayable::Upstream),
         _ => None,
     }

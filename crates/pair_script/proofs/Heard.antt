@@ -22,13 +22,13 @@ fails_after given gateways items past line error those fails =
     (subst (λ (g : List PairGateway). FailsFirst (FailsAfter (settings_in past) g items line) order_of_reasons error) those.gateways_are
     (subst (λ (s : List Setting). FailsFirst (FailsAfter s gateways items line) order_of_reasons error) those.settings_are fails))
 
-allowed_more : (given : List Setting) (setting : Setting) → AllByRecursion IsAllowed given → IsAllowed setting → AllByRecursion IsAllowed (given ++ setting ∷ [])
+pub allowed_more : (given : List Setting) (setting : Setting) → AllByRecursion IsAllowed given → IsAllowed setting → AllByRecursion IsAllowed (given ++ setting ∷ [])
 allowed_more [] setting all here = (here, tt)
 allowed_more (first ∷ rest) setting all here = (all.0, allowed_more rest setting all.1 here)
 
 -- a statement of another kind adds none
-pub none_more : {X : Type 0} (f : PairStatement → Option X) (past : List PairStatement) (one : PairStatement) → filter_map f (one ∷ []) ≡ [] → filter_map f past ≡ filter_map f (past ++ one ∷ [])
-none_more {X} f past one none = sym (append-nil (filter_map f past)) ∙ (ap (λ (more : List X). filter_map f past ++ more) (sym none) ∙ sym (filter_map-append f past (one ∷ [])))
+pub none_more : {S X : Type 0} (f : S → Option X) (past : List S) (one : S) → filter_map f (one ∷ []) ≡ [] → filter_map f past ≡ filter_map f (past ++ one ∷ [])
+none_more {S} {X} f past one none = sym (append-nil (filter_map f past)) ∙ (ap (λ (more : List X). filter_map f past ++ more) (sym none) ∙ sym (filter_map-append f past (one ∷ [])))
 
 pub heard_setting : (given : List Setting) (gateways : List PairGateway) (items : List PairItem) (past : List PairStatement) (setting : Setting)
     → AreThose given gateways items past → IsAllowed setting → AreThose (given ++ setting ∷ []) gateways items (past ++ statements.Setting setting ∷ [])

@@ -17,7 +17,7 @@ use Rattle.pair_script.{specs.declared.statement.PairStatement.{PairStatement}, 
 use Rattle.pair_script.specs.declared.script.PairItem.TheVariants as items
 use Rattle.pair_script.specs.declared.statement.PairStatement.TheVariants as statements
 
-same_family : (one other : Bool) → family_by one ≡ family_by other → one ≡ other
+pub same_family : (one other : Bool) → family_by one ≡ family_by other → one ≡ other
 same_family true true same = refl
 same_family true false same = cc same
 same_family false true same = cc same

@@ -13,4 +13,5 @@ returns c =
     let relay = added _ _ _ _ c.in_ok-relay.ensures head in
     let gateway = added _ _ _ _ c.in_ok-gateway.ensures relay in
     let pair = added _ _ _ _ c.in_ok-pair.ensures gateway in
-    IfOk-weaker c.with_replayable-4.result _ _ (λ r upstream. added _ _ _ _ upstream pair) c.with_replayable-4.ensures
+    let dual = added _ _ _ _ c.in_ok-dual.ensures pair in
+    IfOk-weaker c.with_replayable-5.result _ _ (λ r upstream. added _ _ _ _ upstream dual) c.with_replayable-5.ensures

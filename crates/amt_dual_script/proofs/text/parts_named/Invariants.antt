@@ -1,0 +1,6 @@
+use Rattle.std.proofs.Common.{◌≡◌, map}
+use Rattle.amt_dual_script.specs.Texts.{part_named}
+use Rattle.amt_dual_script.proofs.text.parts_named.Given as goal
+
+abbrev pub invariant-loop-part : goal.invariant-loop-part
+invariant-loop-part l = l.named.items ≡ map part_named l.yielded
