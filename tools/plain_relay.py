@@ -66,11 +66,11 @@ class Endpoint:
         return hmac.new(secret, octets, hashlib.sha256).digest()[:6]
 
 
-def report_of(records, v6):
+def report_of(records, v6, source=None):
     """An Update's inner datagram."""
     body = b"".join(bytes([kind, 0]) + len(sources).to_bytes(2, "big") + group + b"".join(sources) for kind, group, sources in records)
     payload = bytes([0x8F if v6 else 0x22]) + bytes(5) + len(records).to_bytes(2, "big") + body
-    source = LINK if v6 else bytes([10, 0, 0, 2])
+    source = source or (LINK if v6 else bytes([10, 0, 0, 2]))
     destination = bytes.fromhex("ff02" + "0" * 26 + "16") if v6 else bytes([224, 0, 0, 22])
     return inner_of(source, destination, summed(source, destination, payload))
 
@@ -85,7 +85,7 @@ def after(old, kind, sources):
     return excludes, listed | sources if excludes == (kind == 6) else listed - sources
 
 
-def stands(log, moment):
+def stands(log, moment, lifetime=LIFETIME):
     """The filters that stand at the moment, by endpoint and group."""
     filters, renewed = {}, {}
     for entry in log:
@@ -96,12 +96,12 @@ def stands(log, moment):
             continue
         for kind, group, sources in records:
             pair = (endpoint, group)
-            if pair in filters and at - renewed[pair] >= LIFETIME:
+            if pair in filters and at - renewed[pair] >= lifetime:
                 del filters[pair]
             filters[pair], renewed[pair] = after(filters.get(pair, (False, frozenset())), kind, frozenset(sources)), at
             if filters[pair] == (False, frozenset()):
                 del filters[pair]
-    return {pair: it for pair, it in filters.items() if moment - renewed[pair] < LIFETIME}
+    return {pair: it for pair, it in filters.items() if moment - renewed[pair] < lifetime}
 
 
 def order_of(address):
@@ -123,25 +123,32 @@ def listed_text(sources):
     return ",".join(text_of(it) for it in sorted(sources, key=order_of)) or "-"
 
 
-def changes(before, after):
-    """The lines that tell a network of what all filters together want, group by group."""
-    before, after = joined(before), joined(after)
+def change_records(before, after):
+    """The records that make of the filters before, by group, those after."""
     for group in sorted({*before, *after}, key=order_of):
         (excluded, old), (excludes, new) = (it.get(group, (False, frozenset())) for it in (before, after))
         if excluded != excludes:
-            yield f"+ {'to_ex' if excludes else 'to_in'} {text_of(group)} {listed_text(new)}"
+            yield 4 if excludes else 3, group, new
             continue
-        for kind, sources in (("allow", old - new if excludes else new - old), ("block", new - old if excludes else old - new)):
+        for kind, sources in ((5, old - new if excludes else new - old), (6, new - old if excludes else old - new)):
             if sources:
-                yield f"+ {kind} {text_of(group)} {listed_text(sources)}"
+                yield kind, group, sources
+
+
+def changes(before, after):
+    """The lines that tell a network of what all filters together want, group by group."""
+    names = {3: "to_in", 4: "to_ex", 5: "allow", 6: "block"}
+    for kind, group, sources in change_records(joined(before), joined(after)):
+        yield f"+ {names[kind]} {text_of(group)} {listed_text(sources)}"
 
 
 class Relay:
-    def __init__(self, keep, limits):
+    def __init__(self, keep, limits, lifetime=LIFETIME, queries=(QUERY4, QUERY6)):
         self.keep, self.secrets, self.limits, self.now, self.log = keep, [bytes(32)], limits, 0, []
+        self.lifetime, self.queries = lifetime, queries
 
     def filters(self):
-        return stands(self.log, self.now)
+        return stands(self.log, self.now, self.lifetime)
 
     def live(self, filters):
         return len({endpoint for endpoint, _ in filters})
@@ -151,7 +158,7 @@ class Relay:
 
     def request(self, endpoint, nonce, v6):
         limited = self.live(self.filters()) >= self.limits[0]
-        query = bytes([4, 3 if limited else 1]) + endpoint.mac(self.secrets[-1], nonce) + nonce + (QUERY6 if v6 else QUERY4) + endpoint.named
+        query = bytes([4, 3 if limited else 1]) + endpoint.mac(self.secrets[-1], nonce) + nonce + self.queries[v6] + endpoint.named
         return f"queried {'v6' if v6 else 'v4'}{' limited' if limited else ''}", [(endpoint.peer, query)]
 
     def passed(self, endpoint, records, before, later):
@@ -171,7 +178,7 @@ class Relay:
         if not self.is_good(endpoint, nonce, mac):
             return "badmac", []
         entry = ("report", endpoint, [it for it in records if is_forwardable(it[1])], self.now)
-        limit = self.passed(endpoint, entry[2], self.filters(), stands([*self.log, entry], self.now))
+        limit = self.passed(endpoint, entry[2], self.filters(), stands([*self.log, entry], self.now, self.lifetime))
         if limit:
             return f"limit {limit}", []
         self.log.append(entry)

@@ -1,11 +1,12 @@
 """Refuses each allocation of a session in turn, one a run, and checks what the run comes to.
 
 usage: tools/refuse-memory.sh [FIRST [LAST [STRIDE [SESSION..]]]]
-       tools/refuse-memory.sh                      all of both sessions
+       tools/refuse-memory.sh                      all of the first three sessions
        tools/refuse-memory.sh 1 500 25 relay       each 25th allocation of the running relay
 
 The sessions are:
     pair     `amt replay pair` over tools/refuse_memory/session, both ends on a schedule
+    dual     `amt replay dual` over tools/refuse_memory/dual_session, a gateway of both families that joins a group in each
     relay    `amt relay` over devices in memory: three turns with two workers, an Update in the first, a packet in the
              second
     inline   the same with no worker, which isn't run where no session is named
@@ -46,11 +47,12 @@ LIKE = "replay_cases"
 REFUSED = 1_000
 # The tests take some tenths of a second each, and more on a busy machine.
 LONGEST_S = 3600
-# The command of each session, and for how many workers it has links out.
+# The command of each session, for how many workers it has links out, and its script where it is a replay.
 SESSIONS = {
-    "pair": ("replay pair", 0),
-    "relay": ("relay F --turns 3 --workers 2", 2),
-    "inline": ("relay F --turns 3 --workers 0", 1),
+    "pair": ("replay pair", 0, "session"),
+    "dual": ("replay dual", 0, "dual_session"),
+    "relay": ("relay F --turns 3 --workers 2", 2, None),
+    "inline": ("relay F --turns 3 --workers 0", 1, None),
 }
 LINES = {7: "amt: out of memory;", 5: "amt: write fault;", 6: "amt: link fault;"}
 KINDS = ["before the session", "7", "5", "6", "starved", "late", "owed", "unsent", "enough", "none"]
@@ -139,13 +141,11 @@ def lines_for_copy():
 
 def tests_of(numbers, sessions):
     """A test for each run."""
-    script = (HERE / NAME / "session").read_text(encoding="ascii").replace("\n", "\\n\\\n")
     lines = ["use crate::sessions::{Session, tell};", "use std::alloc::AllocError;", ""]
-    lines += [f'const SCRIPT: &str = "{script}";', ""]
     for session in sessions:
-        words, slots = SESSIONS[session]
-        given = "SCRIPT" if session == "pair" else '""'
-        fields = f'words: "{words}", input: {given}, slots: {slots}'
+        words, slots, file = SESSIONS[session]
+        script = (HERE / NAME / file).read_text(encoding="ascii").replace("\n", "\\n\\\n") if file else ""
+        fields = f'words: "{words}", input: "{script}", slots: {slots}'
         lines.append(f"const {session.upper()}: Session<'static> = Session {{ {fields} }};")
     for session in sessions:
         for number in numbers:
@@ -207,7 +207,7 @@ def tell(session, numbers, texts, is_whole):
     refused = len(numbers) - tally["before the session"] - tally["none"]
     kinds = ", ".join(f"{kind} {tally[kind]}" for kind in KINDS if tally[kind])
     print(f"{session}: {refused} allocations refused; {kinds}", flush=True)
-    if is_whole and session != "pair":
+    if is_whole and SESSIONS[session][2] is None:
         missing = [kind for kind in ("starved", "late") if not tally[kind]]
         if missing:
             sys.exit(f"refuse-memory: {session}: no run with {' or '.join(missing)} above 0")
@@ -220,7 +220,7 @@ def main():
         print(__doc__)
         return
     first, last, stride = [int(word) for word in words[:3]] + [1, 500, 1][len(words[:3]):]
-    sessions = words[3:] or ["pair", "relay"]
+    sessions = words[3:] or ["pair", "dual", "relay"]
     # The last run shows what there is with enough memory.
     numbers = sorted({*range(first, last + 1, stride), last})
     if not all(session in SESSIONS for session in sessions) or not 0 < first <= last < REFUSED:

@@ -97,7 +97,7 @@ run() {
 
 for folder in "$top"/examples/*/; do
     folder=${folder%/}
-    if [ -e "$folder/script" ]; then tell "$folder" script "$(named 'replay \(relay\|upstream\|gateway\|pair\)' "$folder")"; fi
+    if [ -e "$folder/script" ]; then tell "$folder" script "$(named 'replay \(relay\|upstream\|gateway\|pair\|dual\)' "$folder")"; fi
     if [ -e "$folder/capture" ]; then captured "$folder"; fi
     if [ -e "$folder/answer" ]; then tell "$folder" answer "$(named 'dns [0-9a-f.:]*' "$folder")"; fi
     if [ -e "$folder/run.sh" ]; then run "$folder"; fi
