@@ -65,12 +65,7 @@ const GATEWAYS: [(&[u8], u16, Result<(), DualFault>); 5] = [
 ];
 
 // What the socket call comes to, which the machine of this family takes.
-fn call(
-    alloc: Global,
-    dual: &mut Dual,
-    v6: bool,
-    line: &[u8],
-) -> Result<DualStep, AllocError>
+fn call(alloc: Global, dual: &mut Dual, v6: bool, line: &[u8]) -> Result<DualStep, AllocError>
     requires { (family : Bool) → (settings_at dual.old family).v6 ≡ family }
     ensures { (family : Bool) → (settings_at dual.new family).v6 ≡ family }
 {
@@ -101,16 +96,17 @@ fn is_ignored(step: &Option<GatewayStep>) -> bool {
 }
 
 // Each machine begins with its own nonce, neither takes part in a call of the other, and what neither takes comes to both.
-fn goes_on(
-    rt: &impl Abort,
-    alloc: Global,
-    nonces: (u32, &[u8], &[u8]),
-) -> Result<(), AllocError> {
+fn goes_on(rt: &impl Abort, alloc: Global, nonces: (u32, &[u8], &[u8])) -> Result<(), AllocError> {
     let (nonce, first, second) = nonces;
     let mut dual = Dual::new(alloc, IPV4, IPV6, nonce)?;
     let step = call(alloc, &mut dual, false, b"open a 239.1.1.1 exclude")?;
     assert!(rt; sends(&step.v4, first) && step.v6.is_none() && !step.starved);
-    let step = call(alloc, &mut dual, true, b"open b ff3e::1 include 2001:db8::9")?;
+    let step = call(
+        alloc,
+        &mut dual,
+        true,
+        b"open b ff3e::1 include 2001:db8::9",
+    )?;
     assert!(rt; step.v4.is_none() && sends(&step.v6, second) && !step.starved);
     let bytes = Bytes::copied(alloc, b"\x02")?;
     let step = dual.step(alloc, &DualEvent::Datagram { from: RELAY, bytes })?;
