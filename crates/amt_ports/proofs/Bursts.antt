@@ -1,5 +1,5 @@
 -- What the askings of a burst come to: at most 64 answers, and no other device's fault.
-use Rattle.std.{proofs.Common.{◌≡◌, ◌≤◌, ◌<◌, ◌+◌, List, [], ◌∷◌, ◌++◌, length, ⊎_elim, sym, ap, ◌∙◌, length-append, arith}, specs.Prelude.{Result, Ok, Err, IsErrOf}}
+use Rattle.std.{proofs.Common.{◌≡◌, ◌≤◌, ◌<◌, List, [], ◌∷◌, ◌++◌, length, ⊎_elim, sym, ap, ◌∙◌, length-append, arith}, specs.Prelude.{Result, Ok, Err, IsErrOf}}
 use Rattle.amt_ports.specs.{Bursts.{AnswerKinds, AreAsked, CameAll, IsBegun, IsBurst, IsClosed}, declared.end.End.{End, TheVariants.{Closed}}}
 
 module _ {A : Type 0} (kinds : AnswerKinds A) where

@@ -1,6 +1,6 @@
 -- How often the real devices have failed, and whether their sends may wait.
 use Rattle.std.specs.Prelude.{ℕ, Bool}
-use Rattle.amt_ports.specs.declared.adapters.{host_clock.HostClock.{HostClock}, host_files.HostFiles.{HostFiles}, host_words.HostWords.{HostWords}, udp.{feed.UdpFeed.{UdpFeed}, link.UdpLink.{UdpLink}, out.UdpOut.{UdpOut}}}
+use Rattle.amt_ports.specs.declared.adapters.{host_clock.HostClock.{HostClock}, host_files.HostFiles.{HostFiles}, host_words.HostWords.{HostWords}, udp.{control.UdpControl.{UdpControl}, feed.UdpFeed.{UdpFeed}, link.UdpLink.{UdpLink}, out.UdpOut.{UdpOut}}}
 
 -- receivings and sends of a link
 abbrev pub receivings_failed : UdpLink → ℕ
@@ -12,6 +12,13 @@ sends_failed link = link.send_faults
 -- receivings of a feed
 abbrev pub feed_failed : UdpFeed → ℕ
 feed_failed feed = feed.faults
+
+-- receivings and answers of a control socket
+abbrev pub lines_failed : UdpControl → ℕ
+lines_failed control = control.receive_faults
+
+abbrev pub replies_failed : UdpControl → ℕ
+replies_failed control = control.send_faults
 
 -- sends of a worker's end
 abbrev pub out_failed : UdpOut → ℕ

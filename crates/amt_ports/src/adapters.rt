@@ -12,5 +12,7 @@ pub use host_clock::HostClock;
 pub use host_files::HostFiles;
 pub use host_words::HostWords;
 pub use reader::ReaderSource;
-pub use udp::{UdpFeed, UdpLink, UdpOut, open_sockets};
+pub use udp::{
+    UdpControl, UdpFeed, UdpLink, UdpOut, open_control, open_gateway_sockets, open_sockets,
+};
 pub use writer::WriterSink;

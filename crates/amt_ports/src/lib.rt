@@ -32,8 +32,8 @@ mod words;
 mod writing;
 
 pub use adapters::{
-    Adapted, HostClock, HostFiles, HostWords, ReaderSource, UdpFeed, UdpLink, UdpOut, WriterSink,
-    open_sockets,
+    Adapted, HostClock, HostFiles, HostWords, ReaderSource, UdpControl, UdpFeed, UdpLink, UdpOut,
+    WriterSink, open_control, open_gateway_sockets, open_sockets,
 };
 pub use asked::{Asked, BUFFER, BURST, WAIT_MS};
 pub use clock::Clock;

@@ -42,11 +42,10 @@ pub trait Link {
     /// The longest wait in milliseconds that a receiving was asked for; 0 where the device doesn't tell it.
     ghost longest_wait: { Self → ℕ };
 
-    /// Waits at most so many milliseconds for a datagram, and writes its octets to the start of the buffer.
-    /// A receiving that failed has taken none.
+    /// Waits at most so many milliseconds for a datagram, and writes its octets to the start of the buffer. With 0
+    /// it doesn't wait. A receiving that failed has taken none.
     fn recv(&mut self, buf: &mut [u8], wait_ms: u32) -> Result<Got, Failed>
         requires room { 65536 ≤ length buf.old }
-        requires wait { 1 ≤ wait_ms }
         ensures short { IfOk result IsShortGot }
         ensures buffer { length buf.new ≡ length buf.old }
         ensures answer { IfOk result (λ got. Answers ClosedLink (coming self.old) (coming self.new) (link_answer got buf.new)) }

@@ -9,7 +9,6 @@ use crate::fault::count_fault;
 use crate::{Failed, Feed, FeedGot};
 use amt_values::Peer;
 use std::io;
-use std::net::UdpSocket;
 
 /// The socket that packets come to, each as a datagram from whomever. It is never closed.
 #[derive(Debug, Drop)]
@@ -19,13 +18,10 @@ pub struct UdpFeed {
 }
 
 impl UdpFeed {
-    pub(crate) fn new(own: UdpSocket, other: UdpSocket) -> Self
+    pub(crate) fn new(socket: WatchedSocket) -> Self
         ensures { feed_failed result ≡ 0 }
     {
-        UdpFeed {
-            socket: WatchedSocket::new(own, other),
-            faults: 0,
-        }
+        UdpFeed { socket, faults: 0 }
     }
 
     /// The address and port that it listens at.

@@ -57,6 +57,11 @@ impl UdpLink {
         Ok(UdpOut::new(self.copies.try_clone()?))
     }
 
+    // The socket that it listens at, for another one's waits.
+    pub(crate) fn beside(&self) -> io::Result<UdpSocket> {
+        self.socket.own.try_clone()
+    }
+
     /// The address and port that it listens at.
     pub fn local_peer(&self) -> io::Result<Peer> {
         Ok(source_peer(self.socket.own.local_addr()?))
@@ -90,7 +95,6 @@ impl Link for UdpLink {
 
     fn recv(&mut self, buf: &mut [u8], wait_ms: u32) -> Result<Got, Failed>
         requires room { 65536 ≤ length buf.old }
-        requires wait { 1 ≤ wait_ms }
         ensures short { IfOk result IsShortGot }
         ensures buffer { length buf.new ≡ length buf.old }
         ensures cause { HasCause (receivings_failed self.old) (receivings_failed self.new) result }

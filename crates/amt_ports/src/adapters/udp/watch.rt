@@ -25,8 +25,8 @@ impl WatchedSocket {
         WatchedSocket { own, other }
     }
 
-    /// The next datagram and its source. There is none where the wait ended without one, where the other
-    /// socket has one, or where a signal came.
+    /// The next datagram and its source. There is none where the wait, of 0 ms or more, ended without one, where
+    /// the other socket has one, or where a signal came.
     pub(crate) fn recv(
         &self,
         buf: &mut [u8],
@@ -39,6 +39,9 @@ impl WatchedSocket {
         // A datagram that is there costs one call of the system.
         if let Some(datagram) = ask(&self.own, buf, DATAGRAM_SIZE)? {
             return Ok(Some(datagram));
+        }
+        if wait_ms == 0 {
+            return Ok(None);
         }
         if self.wait(wait_ms)? {
             return ask(&self.own, buf, DATAGRAM_SIZE);
