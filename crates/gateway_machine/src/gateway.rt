@@ -10,8 +10,8 @@ use crate::settings::GatewaySettings;
 use crate::situation::Situation;
 use crate::step::GatewayStep;
 use crate::taken::{answer_event, replace_sockets};
-use amt_values::{Ip, Moment};
-use socket_merge::Sockets;
+use amt_values::{Ip, Moment, Peer};
+use socket_merge::{Socket, Sockets};
 use std::alloc::{AllocError, Global};
 
 /// A gateway (RFC 7450, section 4.1.2).
@@ -47,7 +47,7 @@ pub struct Gateway {
 
 impl Gateway {
     ghost use Rattle.std.specs.Prelude.{◌≡◌, ◌≤◌, List, ℕ, [], ◌∷◌, ◌++◌, All, length, map, Some, IfOk, IfSome, IsOk, OnErr};
-    ghost use Rattle.socket_merge.specs.Interface.{wants};
+    ghost use Rattle.socket_merge.specs.{History.{open_sockets}, Interface.{wants}};
     ghost use Rattle.gateway_machine.specs.{Due.{IsDueAt}, Events.{IsDraw, IsEventOf}, Laws.{AreAuthorized, IsWantedPacket}, Runs.{After, GatewayAt, answer_after, run_of, settings_of}, Outcomes.{IsRefused, NeedsNoMemory}, Sends.{datagram_of}};
 
     /// A gateway at moment 0 that is idle, without sockets. Its first Discovery or Request has this
@@ -82,6 +82,22 @@ impl Gateway {
             result ≡ (run_of settings first events).exchange.state) }
     {
         self.exchange.state
+    }
+
+    /// The relay that Requests and Updates go to, once one is known: by the settings, or by an Advertisement.
+    pub fn relay(&self) -> Option<Peer>
+        ensures { After self.now (λ settings first events.
+            result ≡ (run_of settings first events).exchange.relay) }
+    {
+        self.exchange.relay
+    }
+
+    /// The open sockets, in the order in which they were opened.
+    pub fn open_sockets(&self) -> &[Socket]
+        ensures { After self.now (λ settings first events.
+            result.now ≡ open_sockets (run_of settings first events).history) }
+    {
+        self.sockets.open_sockets()
     }
 
     /// Whether some socket of the group wants the source.

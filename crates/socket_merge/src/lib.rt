@@ -6,7 +6,7 @@
 //! to others.
 //! It knows no message, tunnel or clock, and writes no octets.
 //!
-//! `Socket` is exported for what contracts say alone: no call takes one or gives one.
+//! `Socket` is what is read of them: no call takes one.
 //! Standard: RFC 3376, sections 3.1, 3.2, 5.1 and 5.2; RFC 3810, sections 4.1, 4.2, 6.1 and 6.2.
 #![tactic(auto)]
 

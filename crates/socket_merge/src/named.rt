@@ -36,6 +36,13 @@ impl NamedSockets {
         }
     }
 
+    /// The sockets, in the order in which they were opened.
+    pub fn as_slice(&self) -> &[Socket]
+        ensures { result.now ≡ self.now }
+    {
+        self.sockets.as_slice()
+    }
+
     /// The socket of this name.
     pub fn find(&self, name: &[u8]) -> Option<&Socket>
         ensures { option_copied result ≡ socket_named name.now self.now }

@@ -5,7 +5,7 @@ ghost use Rattle.std.specs.Map.{keys_of};
 ghost use Rattle.amt_values.specs.{Ascending.{IsAscending}, Group.{is_forwardable}, Order.{ip_order}, declared.address.Ip.{Ip}};
 ghost use Rattle.source_filter.specs.Filter.{admits};
 ghost use Rattle.group_records.specs.Written.{IsOfFamily, report_length};
-ghost use Rattle.socket_merge.specs.{Changes.{IsOneCallAfter, changes_between}, FullReport.{family_by, full_report_of, is_quiet}, History.{Change, Close, LeaveAll, Open, moment_read, sockets_after, with_call}, Interface.{interface, wants}};
+ghost use Rattle.socket_merge.specs.{Changes.{IsOneCallAfter, changes_between}, FullReport.{family_by, full_report_of, is_quiet}, History.{Change, Close, LeaveAll, Open, moment_read, sockets_after, open_sockets, with_call}, Interface.{interface, wants}};
 ghost use Rattle.socket_merge.specs.{Kept.{HasSlot, kept_at, left_after, some_wants}, Refusal.{FillsNoMore, IsWithinLimits, is_open, raw_report_length, refusal_of}, Sockets.{AnswersRefusal, AreOfGroup, AreOfSocket, ForHistory, HasNoOldFarewell, KeepsFarewells, SocketsHold}};
 
 use crate::changes::changes_between;
@@ -14,7 +14,7 @@ use crate::farewells::Farewells;
 use crate::fault::{NoSocket, SocketFault};
 use crate::limit::limit_passed;
 use crate::named::NamedSockets;
-use crate::stored::left_after;
+use crate::stored::{Socket, left_after};
 use amt_values::{Ip, Moment};
 use group_records::{ITEM_LIMIT, REPORT_LIMIT};
 use source_filter::{Filter, Records, copy_filter, merge};
@@ -202,6 +202,13 @@ impl Sockets {
         self.moment = self.moment.later(at);
         self.farewells.leave_all(&self.named, self.moment);
         self.named.clear();
+    }
+
+    /// The open sockets, in the order in which they were opened.
+    pub fn open_sockets(&self) -> &[Socket]
+        ensures { ForHistory self.now (λ history. result.now ≡ open_sockets history) }
+    {
+        self.named.as_slice()
     }
 
     /// The filter of the group for all of its sockets (RFC 3376, section 3.2).
