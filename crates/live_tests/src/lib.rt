@@ -7,6 +7,8 @@
 #![tactic(auto)]
 
 #[cfg(test)]
+mod control;
+#[cfg(test)]
 mod files;
 #[cfg(test)]
 mod loopback;

@@ -70,15 +70,16 @@ fn is_relay_at<V: Live<L = UdpLink, F = UdpFeed>>(
     slots: u32,
     far: &FarEnd,
 ) -> bool {
-    let Ok(mut devices) = live.open_relay(&at.listen, &at.feed, slots) else {
+    let Ok(mut devices) = live.open_relay(&at.listen, &at.feed, &None, slots) else {
         return false;
     };
     let link = link_is_at(&mut devices.link, &at.listen, far);
     let feed = feed_is_at(alloc, &mut devices.feed, &at.feed, far);
     let outs = replace(&mut devices.outs, Outs::new(alloc));
     let outs = all_send_from(outs, slots, &at.listen, far);
+    let unasked = devices.control.is_none();
     live.return_relay(devices);
-    link && feed && outs
+    link && feed && outs && unasked
 }
 
 // The same of a gateway's.
@@ -122,7 +123,7 @@ fn devices_are_opened_where_it_is_asked_and_send_from_there(rt: HostRuntime) -> 
 
 // Why the peer can't be opened for a relay; what is opened is given back at once.
 fn relay_fault<V: Live>(live: &mut V, listen: &Peer) -> Option<OpenFault> {
-    match live.open_relay(listen, &ANY, 1) {
+    match live.open_relay(listen, &ANY, &None, 1) {
         Ok(devices) => {
             live.return_relay(devices);
             None

@@ -5,7 +5,9 @@ ghost use Rattle.std.specs.Prelude.{None};
 use amt_ports::{Failed, MemClock, MemFeed, MemLink, MemOut, MemWords, Spawner, Task};
 use amt_values::{Ip, Peer};
 use replication_workers::{Outs, Worker, WorkerDone};
-use serving_commands::{DeviceSet, GatewayDevices, Live, MemLive, OpenFault, RelayDevices};
+use serving_commands::{
+    Control, DeviceSet, GatewayDevices, Live, MemLive, OpenFault, RelayDevices, SharedCopies,
+};
 use std::alloc::{AllocError, Global};
 use std::collections::VecDeque;
 use std::sync::Wait;
@@ -15,10 +17,16 @@ const LISTEN: Peer = Peer {
     port: 2268,
 };
 
-// Where the feed is.
+// Where the feed is, or a gateway's control lines come.
 const FEED: Peer = Peer {
     ip: Ip::V4(0x7f00_0001),
     port: 5000,
+};
+
+// Where a relay is asked.
+const CONTROL: Peer = Peer {
+    ip: Ip::V4(0x7f00_0001),
+    port: 5001,
 };
 
 // A spawner with no threads: a worker runs when it is joined.
@@ -45,9 +53,11 @@ impl<R: Wait> Spawner<Worker<MemOut>> for AtJoin<R> {
     }
 }
 
-type MemSet<R> = DeviceSet<MemLink, MemFeed, MemClock, MemWords, MemOut, AtJoin<R>>;
+type MemSet<R> =
+    DeviceSet<MemLink, MemFeed, MemClock, MemWords, MemOut, AtJoin<R>, MemLink, SharedCopies>;
 
-type MemSets<R> = MemLive<MemLink, MemFeed, MemClock, MemWords, MemOut, AtJoin<R>>;
+type MemSets<R> =
+    MemLive<MemLink, MemFeed, MemClock, MemWords, MemOut, AtJoin<R>, MemLink, SharedCopies>;
 
 fn outs_of(alloc: Global, count: usize) -> Result<Outs<MemOut>, AllocError> {
     let mut outs = Vec::with_capacity(alloc, count)?;
@@ -57,7 +67,19 @@ fn outs_of(alloc: Global, count: usize) -> Result<Outs<MemOut>, AllocError> {
     Ok(Outs::from(outs))
 }
 
-fn relay_set<R: Drop>(rt: R, alloc: Global, outs: usize) -> Result<MemSet<R>, AllocError> {
+fn control_of(alloc: Global) -> Control<MemLink, SharedCopies> {
+    Control {
+        link: MemLink::new(alloc, VecDeque::new(alloc)),
+        copies: SharedCopies::new(alloc),
+    }
+}
+
+fn relay_set<R: Drop>(
+    rt: R,
+    alloc: Global,
+    outs: usize,
+    control: Option<Control<MemLink, SharedCopies>>,
+) -> Result<MemSet<R>, AllocError> {
     let outs = outs_of(alloc, outs)?;
     Ok(DeviceSet::Relay(RelayDevices {
         link: MemLink::new(alloc, VecDeque::new(alloc)),
@@ -66,6 +88,7 @@ fn relay_set<R: Drop>(rt: R, alloc: Global, outs: usize) -> Result<MemSet<R>, Al
         words: MemWords::new(alloc, Vec::new(alloc)),
         outs,
         spawner: AtJoin { rt },
+        control,
     }))
 }
 
@@ -79,34 +102,39 @@ fn gateway_set<R>(alloc: Global) -> MemSet<R> {
     })
 }
 
-// A relay's set with two links out, a gateway's, and a relay's with one link out.
+// A relay's set with two links out, a gateway's, and a relay's with one link out that may be asked.
 fn sets_of<R: Copy + Drop>(
     rt: R,
     alloc: Global,
     failing: &[u64],
 ) -> Result<MemSets<R>, AllocError> {
     let mut sets = Vec::with_capacity(alloc, 3)?;
-    sets.push(relay_set(rt, alloc, 2)?)?;
+    sets.push(relay_set(rt, alloc, 2, None)?)?;
     sets.push(gateway_set(alloc))?;
-    sets.push(relay_set(rt, alloc, 1)?)?;
+    sets.push(relay_set(rt, alloc, 1, Some(control_of(alloc)))?)?;
     Ok(MemLive::failing(alloc, sets, Vec::from_slice(alloc, failing)?))
 }
 
-// A set: a relay's with so many links out, or a gateway's.
+// A set: a relay's with so many links out, and maybe one that may be asked, or a gateway's.
 #[derive(Clone, Copy, PartialEq, Eq)]
 enum Kind {
     Relay(u32),
+    Asked(u32),
     Gateway,
 }
 
 type Answer = Result<Kind, OpenFault>;
 
 // What an opening for a relay hands out, which is given back.
-fn open_relay<V: Live>(live: &mut V, slots: u32) -> Answer {
-    match live.open_relay(&LISTEN, &FEED, slots) {
+fn open_relay<V: Live>(live: &mut V, control: &Option<Peer>, slots: u32) -> Answer {
+    match live.open_relay(&LISTEN, &FEED, control, slots) {
         Ok(devices) => {
+            let kind = match &devices.control {
+                Some(_) => Kind::Asked(slots),
+                None => Kind::Relay(slots),
+            };
             live.return_relay(devices);
-            Ok(Kind::Relay(slots))
+            Ok(kind)
         }
         Err(fault) => Err(fault),
     }
@@ -125,14 +153,19 @@ fn open_gateway<V: Live>(live: &mut V) -> Answer {
 
 fn open<V: Live>(live: &mut V, kind: &Kind) -> Answer {
     match kind {
-        Kind::Relay(slots) => open_relay(live, *slots),
+        Kind::Relay(slots) => open_relay(live, &None, *slots),
+        Kind::Asked(slots) => open_relay(live, &Some(CONTROL), *slots),
         Kind::Gateway => open_gateway(live),
     }
 }
 
 const ONE: Kind = Kind::Relay(1);
 
+const ONE_ASKED: Kind = Kind::Asked(1);
+
 const TWO: Kind = Kind::Relay(2);
+
+const TWO_ASKED: Kind = Kind::Asked(2);
 
 const THREE: Kind = Kind::Relay(3);
 
@@ -143,12 +176,12 @@ const FAILED: Answer = Err(OpenFault::Failed);
 // The openings that are listed to fail, four that are asked, and what they answer.
 type Row = (&'static str, &'static [u64], [Kind; 4], [Answer; 4]);
 
-const OPENINGS: [Row; 4] = [
+const OPENINGS: [Row; 5] = [
     (
         "the sets are given in order, and after the last one an opening fails",
         &[],
-        [TWO, HOST, ONE, HOST],
-        [Ok(TWO), Ok(HOST), Ok(ONE), FAILED],
+        [TWO, HOST, ONE_ASKED, HOST],
+        [Ok(TWO), Ok(HOST), Ok(ONE_ASKED), FAILED],
     ),
     (
         "a listed opening fails and takes no set",
@@ -168,6 +201,12 @@ const OPENINGS: [Row; 4] = [
         [ONE, THREE, TWO, HOST],
         [FAILED, FAILED, Ok(TWO), Ok(HOST)],
     ),
+    (
+        "a set that may be asked is given where that is wanted alone, and where it is, no other",
+        &[],
+        [TWO_ASKED, TWO, HOST, ONE],
+        [FAILED, Ok(TWO), Ok(HOST), FAILED],
+    ),
 ];
 
 fn answers<V: Live>(live: &mut V, kinds: &[Kind; 4], wanted: &[Answer; 4]) -> bool {
@@ -181,7 +220,12 @@ fn answers<V: Live>(live: &mut V, kinds: &[Kind; 4], wanted: &[Answer; 4]) -> bo
 
 fn is_of<R: Drop>(set: &MemSet<R>, kind: &Kind) -> bool {
     match (set, kind) {
-        (DeviceSet::Relay(devices), Kind::Relay(outs)) => devices.outs.len() == *outs as usize,
+        (DeviceSet::Relay(devices), Kind::Relay(outs)) => {
+            devices.outs.len() == *outs as usize && devices.control.is_none()
+        }
+        (DeviceSet::Relay(devices), Kind::Asked(outs)) => {
+            devices.outs.len() == *outs as usize && devices.control.is_some()
+        }
         (DeviceSet::Gateway(_), Kind::Gateway) => true,
         _ => false,
     }

@@ -5,7 +5,7 @@ use Rattle.serving_commands.{specs.{Sets.{TakesFirst, less_room, more_room}, dec
 use Rattle.amt_ports.specs.Told.{Appends}
 use Rattle.gateway_serving.specs.{Serving.{Serves}, declared.served.GatewayServed.{GatewayServed}}
 
-module _ {V L F C W O P T : Type 0} (told : Tells V L F C W O P T) where
+module _ {V L F C W O P K N T : Type 0} (told : Tells V L F C W O P K N T) where
   pub ran : (config : GatewayConfig) (turns : ℕ) (before between after : V) (opened left : GatewayDevices L F O C W) (report : GatewayServed)
       → Appends (told.live.asked before) (told.live.asked between) (opening_by config) → TakesFirst (told.live.sets before) (told.live.sets between) (GatewaySet opened)
       → (IsSome (told.live.asked before) → IsSome (told.live.asked between)) → told.live.returned between ≡ told.live.returned before

@@ -8,5 +8,5 @@ abbrev pub opening_by : GatewayConfig → Opening
 opening_by config = AskedGateway config.listen config.control
 
 -- what the settings ask for was refused
-abbrev pub IsRefusedBy : {V L F C W O P T : Type 0} → LiveTells V L F C W O P T → Option (List ℕ) → V → V → Type 0
+abbrev pub IsRefusedBy : {V L F C W O P K N T : Type 0} → LiveTells V L F C W O P K N T → Option (List ℕ) → V → V → Type 0
 IsRefusedBy live content before after = IsRefusedFor live gateway_file opening_by content before after

@@ -4,7 +4,7 @@ use Rattle.amt_config.specs.declared.config.GatewayConfig.{GatewayConfig}
 use Rattle.serving_commands.specs.{declared.opening.devices.{DeviceSet.TheVariants.{Gateway as GatewaySet}, GatewayDevices.{GatewayDevices}}, GatewayLives.{set_seen}, GatewayOpenings.{opening_by}, Kinds.{gateway_file}, Lives.{Tells}, Openings.{IsLent}, Reading.{IsConfigured}}
 use Rattle.gateway_serving.specs.{Serving.{Serves}, declared.served.GatewayServed.{GatewayServed}}
 
-module _ {V L F C W O P T : Type 0} (told : Tells V L F C W O P T) where
+module _ {V L F C W O P K N T : Type 0} (told : Tells V L F C W O P K N T) where
   -- The gateway of this configuration ran for so many turns at most on one set of devices, which was then given back.
   pub record RunsBy (config : GatewayConfig) (turns : ℕ) (before after : V) (report : GatewayServed) : Type 0 where
     -- the set that was opened, and what the run left of it

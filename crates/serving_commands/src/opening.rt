@@ -4,6 +4,7 @@
 //! sets to come, the openings asked and the devices given back are told, each call is told.
 //! It knows no message, and of the devices nothing but which of them make up a set.
 mod asked;
+mod counted;
 mod devices;
 mod host;
 mod live;
@@ -11,6 +12,7 @@ mod memory;
 mod returns;
 
 pub use asked::Opening;
+pub use counted::{CountedOut, SharedCopies};
 pub use devices::{DeviceSet, GatewayDevices, RelayDevices};
 pub use host::{HostLive, WorkerThreads};
 pub use live::{Live, OpenFault};

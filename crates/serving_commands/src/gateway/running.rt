@@ -22,7 +22,7 @@ fn run_by<V: Live>(
     requires config { IsLawfulConfig config.now }
     requires turns { AreTurns turns }
     ensures ran { IfOk result (λ report. ∥ RunsBy
-        (tells V.Live V.L.Link V.F.Feed V.C.Clock V.W.Words V.O.OutLink V.P.starts V.P.faults)
+        (tells V.Live V.L.Link V.F.Feed V.C.Clock V.W.Words V.O.OutLink V.P.starts V.P.faults V.K.Link V.N.Copies)
         config.now turns live.old live.new report ∥₁) }
     ensures refused { OnErr result (IsRefused V.Live (opening_by config.now) live.old live.new) }
     ensures failed { IsErrOf result OpenFault.Failed
@@ -74,7 +74,7 @@ pub fn run_gateway<F: Files, V: Live>(
 ) -> Result<GatewayServed, ServingFault>
     requires turns { AreTurns turns }
     ensures ran { IfOk result (λ report. ∥ Runs
-        (tells V.Live V.L.Link V.F.Feed V.C.Clock V.W.Words V.O.OutLink V.P.starts V.P.faults)
+        (tells V.Live V.L.Link V.F.Feed V.C.Clock V.W.Words V.O.OutLink V.P.starts V.P.faults V.K.Link V.N.Copies)
         (F.contents files.old file.now) turns live.old live.new report ∥₁) }
 
     ensures unread { IsErrOf result ServingFault.NotRead

@@ -15,6 +15,8 @@ pub enum Opening {
         listen: Peer,
         /// Where the feed takes packets.
         feed: Peer,
+        /// Where a control socket takes lines, if one is wanted.
+        control: Option<Peer>,
         /// So many links out.
         slots: u32,
     },

@@ -1,11 +1,12 @@
 //! The devices of a run, as one value.
 
+use crate::control::Control;
 use replication_workers::Outs;
 
 /// What a relay runs on: its link, its feed of packets, its clock and random words, one link out for each
-/// slot, and what starts its workers.
+/// slot, what starts its workers, and maybe where it is asked.
 #[derive(Drop)]
-pub struct RelayDevices<L, F, C, W, O, P> {
+pub struct RelayDevices<L, F, C, W, O, P, K, N> {
     /// By which datagrams of endpoints come, and the relay's answers go out.
     pub link: L,
     /// Where the packets to copy come from.
@@ -18,6 +19,8 @@ pub struct RelayDevices<L, F, C, W, O, P> {
     pub outs: Outs<O>,
     /// What starts the workers.
     pub spawner: P,
+    /// Where it is asked by lines, if a control socket is wanted.
+    pub control: Option<Control<K, N>>,
 }
 
 /// What a gateway runs on: its link, the feed of its control lines, the link out for packets that it hands on,
@@ -38,9 +41,9 @@ pub struct GatewayDevices<L, F, O, C, W> {
 
 /// A set of devices: what one run is opened on, and gives back.
 #[derive(Drop)]
-pub enum DeviceSet<L, F, C, W, O, P> {
+pub enum DeviceSet<L, F, C, W, O, P, K, N> {
     /// What a relay runs on.
-    Relay(RelayDevices<L, F, C, W, O, P>),
+    Relay(RelayDevices<L, F, C, W, O, P, K, N>),
     /// What a gateway runs on.
     Gateway(GatewayDevices<L, F, O, C, W>),
 }

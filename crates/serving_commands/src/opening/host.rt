@@ -1,12 +1,14 @@
 //! The devices of the machine.
-ghost use Rattle.std.specs.Prelude.{◌≡◌, ◌≤◌, IfOk, IsErrOf, None, length};
+ghost use Rattle.std.specs.Prelude.{◌≡◌, ◌≤◌, IfOk, IsErrOf, None, is_some, length};
 ghost use Rattle.amt_ports.specs.Causes.{Rose};
 
+use crate::control::Control;
+use crate::opening::counted::{CountedOut, SharedCopies};
 use crate::opening::devices::{GatewayDevices, RelayDevices};
 use crate::opening::live::{Live, OpenFault};
 use amt_ports::{
-    Failed, GivenBy, HostClock, HostWords, Starts, ThreadSpawner, UdpFeed, UdpLink, UdpOut,
-    open_sockets,
+    Failed, GivenBy, HostClock, HostWords, Starts, ThreadSpawner, UdpControl, UdpFeed, UdpLink,
+    UdpOut, open_control, open_sockets,
 };
 use amt_values::Peer;
 use replication_workers::{Outs, Worker, WorkerDone, start_worker};
@@ -23,17 +25,20 @@ use std::time::Clock;
 // each: on time that is some 900 wakings a second, and with this 250.
 const TIMER_SLACK: &str = "3000000";
 
+/// A worker's end of the link's socket, whose sends may be counted.
+type HostOut = CountedOut<UdpOut>;
+
 /// What starts workers that send through UDP sockets, each in a thread of its own.
 #[derive(Debug, Drop)]
 pub struct WorkerThreads<R> {
     rt: R,
 }
 
-impl<R: Threads + Wait + 'static> Starts<Worker<UdpOut>> for WorkerThreads<R> {
+impl<R: Threads + Wait + 'static> Starts<Worker<HostOut>> for WorkerThreads<R> {
     fn start_thread(
         &self,
-        work: Worker<UdpOut>,
-    ) -> Result<PromisedHandle<WorkerDone<UdpOut>, GivenBy<Worker<UdpOut>>>, Failed> {
+        work: Worker<HostOut>,
+    ) -> Result<PromisedHandle<WorkerDone<HostOut>, GivenBy<Worker<HostOut>>>, Failed> {
         start_worker(&self.rt, work)
     }
 }
@@ -43,11 +48,13 @@ type HostDevices<R> = RelayDevices<
     UdpFeed,
     HostClock<R>,
     HostWords<R>,
-    UdpOut,
+    HostOut,
     ThreadSpawner<R, WorkerThreads<R>>,
+    UdpControl,
+    SharedCopies,
 >;
 
-type HostGateway<R> = GatewayDevices<UdpLink, UdpFeed, UdpOut, HostClock<R>, HostWords<R>>;
+type HostGateway<R> = GatewayDevices<UdpLink, UdpFeed, HostOut, HostClock<R>, HostWords<R>>;
 
 /// The sockets, clock, random words and threads of the machine.
 #[derive(Debug, Drop)]
@@ -88,15 +95,58 @@ impl<R: Copy> HostLive<R> {
     }
 }
 
+type HostControl = Option<Control<UdpControl, SharedCopies>>;
+
+// The control socket, where one is asked for, with what counts the copies.
+fn open_control_beside<R: Net>(
+    rt: &R,
+    alloc: Global,
+    control: &Option<Peer>,
+    link: &UdpLink,
+) -> Result<HostControl, OpenFault>
+    ensures { IfOk result (λ opened. is_some opened ≡ is_some control.now) }
+{
+    let Some(peer) = control else {
+        return Ok(None);
+    };
+    let Ok(socket) = open_control(rt, peer, link) else {
+        return Err(OpenFault::Failed);
+    };
+    Ok(Some(Control {
+        link: socket,
+        copies: SharedCopies::new(alloc),
+    }))
+}
+
+// An end of the link's socket. Its copies are counted where somebody may ask for their number.
+fn open_out(link: &UdpLink, control: &mut HostControl) -> Result<HostOut, OpenFault>
+    ensures { is_some control.new ≡ is_some control.old }
+{
+    let Ok(out) = link.worker_end() else {
+        return Err(OpenFault::Failed);
+    };
+    match control {
+        Some(control) => match control.copies.counted(out) {
+            Ok(out) => Ok(out),
+            Err(_) => Err(OpenFault::Memory),
+        },
+        None => Ok(CountedOut::uncounted(out)),
+    }
+}
+
 // An end of the link's socket for each slot.
-fn open_outs(alloc: Global, link: &UdpLink, slots: u32) -> Result<Outs<UdpOut>, OpenFault>
-    ensures { IfOk result (λ outs. length outs ≡ slots) }
+fn open_outs(
+    alloc: Global,
+    link: &UdpLink,
+    slots: u32,
+    control: &mut HostControl,
+) -> Result<Outs<HostOut>, OpenFault>
+    ensures outs { IfOk result (λ outs. length outs ≡ slots) }
+    ensures control { is_some control.new ≡ is_some control.old }
 {
     let mut outs = Outs::new(alloc);
     for slot in 0..slots {
-        let Ok(out) = link.worker_end() else {
-            return Err(OpenFault::Failed);
-        };
+        let out = open_out(link, control)?;
         if outs.push(out).is_err() {
             return Err(OpenFault::Memory);
         }
@@ -116,9 +166,13 @@ where
 
     type W = HostWords<R>;
 
-    type O = UdpOut;
+    type O = HostOut;
 
     type P = ThreadSpawner<R, WorkerThreads<R>>;
+
+    type K = UdpControl;
+
+    type N = SharedCopies;
 
     ghost sets = { λ _. None };
 
@@ -134,9 +188,10 @@ where
         &mut self,
         listen: &Peer,
         feed: &Peer,
+        control: &Option<Peer>,
         slots: u32,
     ) -> Result<HostDevices<R>, OpenFault> {
-        let opened = open_relay_devices(self.rt, self.alloc, listen, feed, slots);
+        let opened = open_relay_devices(self.rt, self.alloc, listen, feed, control, slots);
         self.count(&opened);
         opened
     }
@@ -173,17 +228,20 @@ fn open_relay_devices<R>(
     alloc: Global,
     listen: &Peer,
     feed: &Peer,
+    control: &Option<Peer>,
     slots: u32,
 ) -> Result<HostDevices<R>, OpenFault>
 where
     R: Net + Threads + Wait + Clock + RandomSource + Files + Copy + Drop + 'static,
-    ensures { IfOk result (λ devices. length devices.outs ≡ slots) }
+    ensures outs { IfOk result (λ devices. length devices.outs ≡ slots) }
+    ensures control { IfOk result (λ devices. is_some devices.control ≡ is_some control.now) }
 {
     let_sleeps_end_late(&rt);
     let Ok((link, feed)) = open_sockets(&rt, listen, feed) else {
         return Err(OpenFault::Failed);
     };
-    let outs = open_outs(alloc, &link, slots)?;
+    let mut control = open_control_beside(&rt, alloc, control, &link)?;
+    let outs = open_outs(alloc, &link, slots, &mut control)?;
     Ok(RelayDevices {
         link,
         feed,
@@ -191,6 +249,7 @@ where
         words: HostWords::new(rt),
         outs,
         spawner: ThreadSpawner::new(rt, WorkerThreads { rt }),
+        control,
     })
 }
 
@@ -213,7 +272,7 @@ where
     Ok(GatewayDevices {
         link,
         control,
-        out,
+        out: CountedOut::uncounted(out),
         clock: HostClock::new(rt),
         words: HostWords::new(rt),
     })

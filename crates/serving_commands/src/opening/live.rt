@@ -1,8 +1,9 @@
 //! What opens the devices of a run.
-ghost use Rattle.std.specs.Prelude.{◌≡◌, ◌≤◌, ℕ, IfOk, IsErrOf, IsSome, List, OnErr, OnOk, Option, length};
+ghost use Rattle.std.specs.Prelude.{◌≡◌, ◌≤◌, ℕ, IfOk, IsErrOf, IsSome, List, OnErr, OnOk, Option, is_some, length};
 ghost use Rattle.amt_ports.specs.{Causes.{Rose}, Told.{Appends}};
 ghost use Rattle.serving_commands.specs.{Sets.{HasRoom, TakesFirst, less_room, more_room}, declared.opening.{asked.Opening.{Opening as Asked, TheVariants.{Relay as AskedRelay, Gateway as AskedGateway}}, devices.DeviceSet.{DeviceSet as Set, TheVariants.{Relay as RelaySet, Gateway as GatewaySet}}}};
 
+use crate::control::Copies;
 use crate::opening::asked::Opening;
 use crate::opening::devices::{GatewayDevices, RelayDevices};
 use amt_ports::{Clock, Feed, Link, OutLink, Spawner, Words};
@@ -32,14 +33,18 @@ pub trait Live {
 
     type P: Spawner<Worker<Self::O>>;
 
+    type K: Link;
+
+    type N: Copies;
+
     /// The sets of devices that openings will give from here on, where it tells them.
-    ghost sets: { Self → Option (List (Set Self.L Self.F Self.C Self.W Self.O Self.P)) };
+    ghost sets: { Self → Option (List (Set Self.L Self.F Self.C Self.W Self.O Self.P Self.K Self.N)) };
 
     /// The openings that were asked for so far, in order, where it tells them.
     ghost asked: { Self → Option (List Asked) };
 
     /// The sets that were given back so far, in order, where it tells them.
-    ghost returned: { Self → Option (List (Set Self.L Self.F Self.C Self.W Self.O Self.P)) };
+    ghost returned: { Self → Option (List (Set Self.L Self.F Self.C Self.W Self.O Self.P Self.K Self.N)) };
 
     /// For how many sets it has kept room, so that they can be given back without memory. None is that it
     /// needs no room.
@@ -48,22 +53,24 @@ pub trait Live {
     /// How often an opening has failed. A count at 2^64 - 1 stays there.
     ghost faults: { Self → ℕ };
 
-    /// Opens what a relay runs on: the link at the first peer, the feed at the second, and one link out for
-    /// each slot.
+    /// Opens what a relay runs on: the link at the first peer, the feed at the second, a control socket at the
+    /// third, where one is given, and one link out for each slot.
     fn open_relay(
         &mut self,
         listen: &Peer,
         feed: &Peer,
+        control: &Option<Peer>,
         slots: u32,
-    ) -> Result<RelayDevices<Self::L, Self::F, Self::C, Self::W, Self::O, Self::P>, OpenFault>
+    ) -> Result<RelayDevices<Self::L, Self::F, Self::C, Self::W, Self::O, Self::P, Self::K, Self::N>, OpenFault>
         ensures outs { IfOk result (λ devices. length devices.outs ≡ slots) }
+        ensures control { IfOk result (λ devices. is_some devices.control ≡ is_some control.now) }
         ensures first { IfOk result (λ devices. TakesFirst (sets self.old) (sets self.new) (RelaySet devices)) }
         ensures room { OnOk result (room self.new ≡ more_room (room self.old)) }
 
         ensures kept { OnErr result (sets self.new ≡ sets self.old) }
         ensures same_room { OnErr result (room self.new ≡ room self.old) }
 
-        ensures asked { Appends (asked self.old) (asked self.new) (AskedRelay listen.now feed.now slots) }
+        ensures asked { Appends (asked self.old) (asked self.new) (AskedRelay listen.now feed.now control.now slots) }
         ensures tells { OnOk result (IsSome (asked self.old) → IsSome (asked self.new)) }
         ensures returned { returned self.new ≡ returned self.old }
 
@@ -74,7 +81,7 @@ pub trait Live {
     /// Takes back what a relay ran on. It takes no memory: the room was made at the opening.
     fn return_relay(
         &mut self,
-        devices: RelayDevices<Self::L, Self::F, Self::C, Self::W, Self::O, Self::P>,
+        devices: RelayDevices<Self::L, Self::F, Self::C, Self::W, Self::O, Self::P, Self::K, Self::N>,
     )
         requires { HasRoom (room self.old) }
         ensures returned { Appends (returned self.old) (returned self.new) (RelaySet devices) }

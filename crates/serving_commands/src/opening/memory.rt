@@ -1,8 +1,9 @@
 //! Sets of devices in memory, for tests and callers.
-ghost use Rattle.std.specs.Prelude.{◌≡◌, ◌≤◌, ◌<◌, ◌⊎◌, [], ◌∷◌, Contains, IfOk, IsErr, IsErrOf, IsSome, OnErr, OnOk, Some, false, length, true};
+ghost use Rattle.std.specs.Prelude.{◌≡◌, ◌≤◌, ◌<◌, ◌⊎◌, [], ◌∷◌, Contains, IfOk, IsErr, IsErrOf, IsSome, OnErr, OnOk, Some, false, is_some, length, true};
 ghost use Rattle.amt_ports.specs.{Causes.{HasCause, Rose, next_count}, Tally.{fresh_tally, with_call, with_fault}, Told.{Appends}};
-ghost use Rattle.serving_commands.specs.{MemLive.{with_room}, Sets.{HasRoom, TakesFirst, fits_gateway, fits_relay, less_room, more_room}, declared.opening.{asked.Opening.TheVariants.{Relay as AskedRelay, Gateway as AskedGateway}, devices.DeviceSet.TheVariants.{Relay as RelaySet, Gateway as GatewaySet}}};
+ghost use Rattle.serving_commands.specs.{MemLive.{with_room}, Sets.{HasRoom, TakesFirst, fits_gateway, fits_relay, is_as_asked, less_room, more_room}, declared.opening.{asked.Opening.TheVariants.{Relay as AskedRelay, Gateway as AskedGateway}, devices.DeviceSet.TheVariants.{Relay as RelaySet, Gateway as GatewaySet}}};
 
+use crate::control::Copies;
 use crate::opening::asked::{AskedLog, Opening};
 use crate::opening::devices::{DeviceSet, GatewayDevices, RelayDevices};
 use crate::opening::live::{Live, OpenFault};
@@ -16,27 +17,27 @@ use std::marker::Model;
 /// Sets of devices, which are handed out in order, and of which some openings may fail.
 ///
 /// An opening fails where its number is listed, where no set is to come, and where the first one isn't what it
-/// asks for: of the other kind, or a relay's with another number of links out than there are slots. That set
-/// stays the first one. Where memory refuses to keep what was asked, the openings aren't told from then on.
+/// asks for: of the other kind, or a relay's with another number of links out than there are slots, or with a
+/// control socket where none is asked for, or the other way round. That set stays the first one. Where memory refuses to keep what was asked, the openings aren't told from then on.
 #[derive(Drop)]
-pub struct MemLive<L, F, C, W, O, P> {
-    sets: Vec<DeviceSet<L, F, C, W, O, P>>,
+pub struct MemLive<L, F, C, W, O, P, K, N> {
+    sets: Vec<DeviceSet<L, F, C, W, O, P, K, N>>,
     asked: AskedLog,
-    returned: Returns<DeviceSet<L, F, C, W, O, P>>,
+    returned: Returns<DeviceSet<L, F, C, W, O, P, K, N>>,
     calls: CallTally,
 }
 
-impl<L, F, C, W, O, P> Model for MemLive<L, F, C, W, O, P> {
+impl<L, F, C, W, O, P, K, N> Model for MemLive<L, F, C, W, O, P, K, N> {
     ghost use Rattle.serving_commands.specs.{MemLive.{OpenCalls}, declared.opening.devices.DeviceSet.{DeviceSet as Set}};
 
-    ghost Value = { OpenCalls (Set L F C W O P) };
+    ghost Value = { OpenCalls (Set L F C W O P K N) };
 
     ghost view = { λ live. record { sets = live.sets.items; asked = live.asked; returned = live.returned; calls = live.calls } };
 }
 
-impl<L: Drop, F: Drop, C: Drop, W: Drop, O: Drop, P: Drop> MemLive<L, F, C, W, O, P> {
+impl<L: Drop, F: Drop, C: Drop, W: Drop, O: Drop, P: Drop, K: Drop, N: Drop> MemLive<L, F, C, W, O, P, K, N> {
     /// No opening fails while a set that fits it is to come.
-    pub fn new(alloc: Global, sets: Vec<DeviceSet<L, F, C, W, O, P>>) -> Self
+    pub fn new(alloc: Global, sets: Vec<DeviceSet<L, F, C, W, O, P, K, N>>) -> Self
         ensures sets { result.sets ≡ sets.items }
         ensures asked { result.asked ≡ Some [] }
         ensures returned { result.returned.sets ≡ [] }
@@ -47,7 +48,7 @@ impl<L: Drop, F: Drop, C: Drop, W: Drop, O: Drop, P: Drop> MemLive<L, F, C, W, O
     }
 
     /// The openings of these numbers fail, counted from 1.
-    pub fn failing(alloc: Global, sets: Vec<DeviceSet<L, F, C, W, O, P>>, calls: Vec<u64>) -> Self
+    pub fn failing(alloc: Global, sets: Vec<DeviceSet<L, F, C, W, O, P, K, N>>, calls: Vec<u64>) -> Self
         ensures sets { result.sets ≡ sets.items }
         ensures asked { result.asked ≡ Some [] }
         ensures returned { result.returned.sets ≡ [] }
@@ -70,7 +71,7 @@ impl<L: Drop, F: Drop, C: Drop, W: Drop, O: Drop, P: Drop> MemLive<L, F, C, W, O
     }
 
     /// The sets that were given back, in order.
-    pub fn returned(&self) -> &[DeviceSet<L, F, C, W, O, P>]
+    pub fn returned(&self) -> &[DeviceSet<L, F, C, W, O, P, K, N>]
         ensures { result.now ≡ self.now.returned.sets }
     {
         self.returned.as_slice()
@@ -84,18 +85,35 @@ impl<L: Drop, F: Drop, C: Drop, W: Drop, O: Drop, P: Drop> MemLive<L, F, C, W, O
     }
 }
 
-// Whether the first set to come is a relay's, with so many links out.
-fn fits_relay<L, F, C, W, O: Drop, P>(slots: u32, sets: &[DeviceSet<L, F, C, W, O, P>]) -> bool
-    ensures { result ≡ fits_relay slots sets.now }
+// Whether there is a control socket exactly where one is asked for.
+fn is_as_asked<T>(asked: bool, control: &Option<T>) -> bool
+    ensures { result ≡ is_as_asked asked control.now }
+{
+    if asked {
+        control.is_some()
+    } else {
+        control.is_none()
+    }
+}
+
+// Whether the first set to come is a relay's, with so many links out, and a control socket as asked.
+fn fits_relay<L, F, C, W, O: Drop, P, K, N>(
+    slots: u32,
+    asked: bool,
+    sets: &[DeviceSet<L, F, C, W, O, P, K, N>],
+) -> bool
+    ensures { result ≡ fits_relay slots asked sets.now }
 {
     match sets.first() {
-        Some(DeviceSet::Relay(devices)) => devices.outs.len() == slots as usize,
+        Some(DeviceSet::Relay(devices)) => {
+            devices.outs.len() == slots as usize && is_as_asked(asked, &devices.control)
+        }
         _ => false,
     }
 }
 
 // Whether the first set to come is a gateway's.
-fn fits_gateway<L, F, C, W, O, P>(sets: &[DeviceSet<L, F, C, W, O, P>]) -> bool
+fn fits_gateway<L, F, C, W, O, P, K, N>(sets: &[DeviceSet<L, F, C, W, O, P, K, N>]) -> bool
     ensures { result ≡ fits_gateway sets.now }
 {
     matches!(sets.first(), Some(DeviceSet::Gateway(_)))
@@ -166,13 +184,15 @@ fn take_first<T>(sets: &mut Vec<T>) -> T
 }
 
 // Takes the first set out, which is a relay's.
-fn take_relay<L, F, C, W, O, P>(
+fn take_relay<L, F, C, W, O, P, K, N>(
     slots: u32,
-    sets: &mut Vec<DeviceSet<L, F, C, W, O, P>>,
-) -> RelayDevices<L, F, C, W, O, P>
-    requires { fits_relay slots sets.old.items ≡ true }
+    asked: bool,
+    sets: &mut Vec<DeviceSet<L, F, C, W, O, P, K, N>>,
+) -> RelayDevices<L, F, C, W, O, P, K, N>
+    requires { fits_relay slots asked sets.old.items ≡ true }
     ensures first { sets.old.items ≡ RelaySet result ∷ sets.new.items }
     ensures outs { length result.outs ≡ slots }
+    ensures control { is_some result.control ≡ asked }
 {
     match take_first(sets) {
         DeviceSet::Relay(devices) => devices,
@@ -181,8 +201,8 @@ fn take_relay<L, F, C, W, O, P>(
 }
 
 // Takes the first set out, which is a gateway's.
-fn take_gateway<L, F, C, W, O, P>(
-    sets: &mut Vec<DeviceSet<L, F, C, W, O, P>>,
+fn take_gateway<L, F, C, W, O, P, K, N>(
+    sets: &mut Vec<DeviceSet<L, F, C, W, O, P, K, N>>,
 ) -> GatewayDevices<L, F, O, C, W>
     requires { fits_gateway sets.old.items ≡ true }
     ensures first { sets.old.items ≡ GatewaySet result ∷ sets.new.items }
@@ -193,7 +213,7 @@ fn take_gateway<L, F, C, W, O, P>(
     }
 }
 
-impl<L, F, C, W, O, P> Live for MemLive<L, F, C, W, O, P>
+impl<L, F, C, W, O, P, K, N> Live for MemLive<L, F, C, W, O, P, K, N>
 where
     L: Link + Drop,
     F: Feed + Drop,
@@ -201,6 +221,8 @@ where
     W: Words + Drop,
     O: OutLink + Drop,
     P: Spawner<Worker<O>> + Drop,
+    K: Link + Drop,
+    N: Copies + Drop,
 {
     type L = L;
 
@@ -213,6 +235,10 @@ where
     type O = O;
 
     type P = P;
+
+    type K = K;
+
+    type N = N;
 
     ghost sets = { λ live. Some live.sets };
 
@@ -228,9 +254,11 @@ where
         &mut self,
         listen: &Peer,
         feed: &Peer,
+        control: &Option<Peer>,
         slots: u32,
-    ) -> Result<RelayDevices<L, F, C, W, O, P>, OpenFault>
+    ) -> Result<RelayDevices<L, F, C, W, O, P, K, N>, OpenFault>
         ensures outs { IfOk result (λ devices. length devices.outs ≡ slots) }
+        ensures control { IfOk result (λ devices. is_some devices.control ≡ is_some control.now) }
         ensures first { IfOk result (λ devices. TakesFirst (Some self.old.sets)
             (Some self.new.sets) (RelaySet devices)) }
         ensures room { OnOk result
@@ -241,7 +269,7 @@ where
             (Some self.new.returned.room ≡ Some self.old.returned.room) }
 
         ensures asked { Appends self.old.asked self.new.asked
-            (AskedRelay listen.now feed.now slots) }
+            (AskedRelay listen.now feed.now control.now slots) }
         ensures tells { OnOk result (IsSome self.old.asked → IsSome self.new.asked) }
         ensures returned { Some self.new.returned.sets ≡ Some self.old.returned.sets }
 
@@ -253,10 +281,11 @@ where
 
         ensures listed { Contains self.old.calls.failing (next_count self.old.calls.made)
             → IsErrOf result OpenFault.Failed }
-        ensures unfit { fits_relay slots self.old.sets ≡ false → IsErrOf result OpenFault.Failed }
+        ensures unfit { fits_relay slots (is_some control.now) self.old.sets ≡ false
+            → IsErrOf result OpenFault.Failed }
         ensures only { IsErrOf result OpenFault.Failed
             → Contains self.old.calls.failing (next_count self.old.calls.made)
-            ⊎ (fits_relay slots self.old.sets ≡ false) }
+            ⊎ (fits_relay slots (is_some control.now) self.old.sets ≡ false) }
         ensures err { IsErrOf result OpenFault.Failed
             → self.new.calls ≡ with_fault (with_call self.old.calls) }
         ensures ok { ¬ IsErrOf result OpenFault.Failed
@@ -265,9 +294,11 @@ where
         let opening = Opening::Relay {
             listen: *listen,
             feed: *feed,
+            control: *control,
             slots,
         };
-        let fits = fits_relay(slots, self.sets.as_slice());
+        let asked = control.is_some();
+        let fits = fits_relay(slots, asked, self.sets.as_slice());
         match admit(
             &mut self.asked,
             &mut self.calls,
@@ -275,12 +306,12 @@ where
             opening,
             fits,
         ) {
-            Ok(()) => Ok(take_relay(slots, &mut self.sets)),
+            Ok(()) => Ok(take_relay(slots, asked, &mut self.sets)),
             Err(fault) => Err(fault),
         }
     }
 
-    fn return_relay(&mut self, devices: RelayDevices<L, F, C, W, O, P>)
+    fn return_relay(&mut self, devices: RelayDevices<L, F, C, W, O, P, K, N>)
         requires { HasRoom (Some self.old.returned.room) }
         ensures returned { Appends (Some self.old.returned.sets) (Some self.new.returned.sets)
             (RelaySet devices) }

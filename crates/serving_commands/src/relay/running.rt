@@ -27,7 +27,7 @@ fn run_by<R: Wait, V: Live>(
     requires settings { AreLawfulSettings (settings_of config.now) }
     requires plan { IsLawfulPlan plan.now }
     ensures ran { IfOk result (λ report. ∥ RunsBy
-        (tells V.Live V.L.Link V.F.Feed V.C.Clock V.W.Words V.O.OutLink V.P.starts V.P.faults)
+        (tells V.Live V.L.Link V.F.Feed V.C.Clock V.W.Words V.O.OutLink V.P.starts V.P.faults V.K.Link V.N.Copies)
         config.now plan.now live.old live.new report ∥₁) }
     ensures refused { OnErr result
         (IsRefused V.Live (opening_by config.now plan.now) live.old live.new) }
@@ -37,7 +37,7 @@ fn run_by<R: Wait, V: Live>(
         → V.faults live.new ≡ V.faults live.old }
 {
     let slots = plan.workers.max(1);
-    let devices = match live.open_relay(&config.listen, &config.feed, slots) {
+    let devices = match live.open_relay(&config.listen, &config.feed, &None, slots) {
         Ok(devices) => devices,
         Err(fault) => return Err(fault),
     };
@@ -48,6 +48,7 @@ fn run_by<R: Wait, V: Live>(
         mut words,
         outs,
         mut spawner,
+        control,
     } = devices;
     let Served {
         report,
@@ -72,6 +73,7 @@ fn run_by<R: Wait, V: Live>(
         words,
         outs,
         spawner,
+        control,
     });
     Ok(report)
 }
@@ -93,7 +95,7 @@ pub fn run_relay<R: Wait, F: Files, V: Live>(
     requires turns { AreTurns turns }
     requires workers { AreWorkers workers }
     ensures ran { IfOk result (λ report. ∥ Runs
-        (tells V.Live V.L.Link V.F.Feed V.C.Clock V.W.Words V.O.OutLink V.P.starts V.P.faults)
+        (tells V.Live V.L.Link V.F.Feed V.C.Clock V.W.Words V.O.OutLink V.P.starts V.P.faults V.K.Link V.N.Copies)
         (F.contents files.old file.now) turns workers live.old live.new report ∥₁) }
 
     ensures unread { IsErrOf result ServingFault.NotRead

@@ -1,4 +1,4 @@
-use Rattle.std.proofs.Common.{◌≡◌, ◌⊎◌, ◌∙◌, Contains, ap, false, inl, inr, subst, sym}
+use Rattle.std.proofs.Common.{◌≡◌, ◌⊎◌, ◌∙◌, Contains, ap, false, inl, inr, is_some, subst, sym}
 use Rattle.amt_ports.specs.{Causes.{next_count}, Tally.{with_call}}
 use Rattle.serving_commands.{specs.{Sets.{fits_relay}, declared.opening.live.OpenFault.TheVariants.{Failed}}, proofs.Faults.{same_fault}}
 use Rattle.serving_commands.proofs.opening.memory.MemLiveLive.open_relay.Goals as goal
@@ -15,10 +15,10 @@ returns-in-Err-clause-listed g c = λ listed.
 
 pub returns-in-Err-clause-only : goal.returns-in-Err-clause-only
 returns-in-Err-clause-only g c = λ is.
-    subst (λ live. Contains live.calls.failing (next_count live.calls.made) ⊎ (fits_relay c.args.slots live.sets ≡ false)) c.self.view_is
+    subst (λ live. Contains live.calls.failing (next_count live.calls.made) ⊎ (fits_relay c.args.slots (is_some c.args.control.now) live.sets ≡ false)) c.self.view_is
     (elim (c.in-Err.ensures.only (same_fault c.in-Err.fault Failed is)) [
       | inl listed ↦ inl listed
-      | inr unfit ↦ inr (subst (λ sets. fits_relay c.args.slots sets ≡ false) c.as_slice.ensures.value (sym c.fits_relay-fits.ensures ∙ unfit))
+      | inr unfit ↦ inr (subst (λ sets. fits_relay c.args.slots (is_some c.args.control.now) sets ≡ false) c.as_slice.ensures.value (sym c.fits_relay-fits.ensures ∙ unfit))
     ])
 
 pub returns-in-Err-clause-ok : goal.returns-in-Err-clause-ok
