@@ -187,10 +187,11 @@ impl Wanted {
     }
 }
 
-// `=` for the link, and `=N` for the Nth link out: a number that isn't written so would be that of none.
+// `=` for the link, `=?` for a relay's control socket, and `=N` for the Nth link out: a number that isn't written so
+// would be that of none.
 fn is_of_out(mark: &str) -> bool {
     match mark.strip_prefix('=') {
-        Some("") => true,
+        Some("" | "?") => true,
         Some(number) => {
             matches!(number.parse::<u8>(), Ok(1..=64)) && !number.starts_with(['0', '+'])
         }

@@ -7,7 +7,8 @@ use crate::failing::{Call, FailingCall, numbers_of};
 use crate::script::{Event, read_event};
 use amt_ports::{ListedSpawner, MemClock, MemFeed, MemLink, MemOut, MemWords, OutLink};
 use amt_values::{Ip, Moment, Peer};
-use arrivals::{feed_answers, link_answers};
+use arrivals::{Receiver, feed_answers, link_answers};
+use relay_serving::{Control, CopyCount, MemCopies};
 use replication_workers::Outs;
 use serving_commands::{DeviceSet, GatewayDevices, MemLive, RelayDevices};
 use starters::Starter;
@@ -19,11 +20,14 @@ use std::thread::Threads;
 pub type Spawner<'a, R> = ListedSpawner<&'a R, Starter<'a, R>>;
 
 /// Where the case's set of devices is opened.
-pub type Sets<'a, R> = MemLive<MemLink, MemFeed, MemClock, MemWords, MemOut, Spawner<'a, R>>;
+pub type Sets<'a, R> =
+    MemLive<MemLink, MemFeed, MemClock, MemWords, MemOut, Spawner<'a, R>, MemLink, MemCopies>;
 
-pub type Set<'a, R> = DeviceSet<MemLink, MemFeed, MemClock, MemWords, MemOut, Spawner<'a, R>>;
+pub type Set<'a, R> =
+    DeviceSet<MemLink, MemFeed, MemClock, MemWords, MemOut, Spawner<'a, R>, MemLink, MemCopies>;
 
-type OfRelay<'a, R> = RelayDevices<MemLink, MemFeed, MemClock, MemWords, MemOut, Spawner<'a, R>>;
+type OfRelay<'a, R> =
+    RelayDevices<MemLink, MemFeed, MemClock, MemWords, MemOut, Spawner<'a, R>, MemLink, MemCopies>;
 
 type OfGateway = GatewayDevices<MemLink, MemFeed, MemOut, MemClock, MemWords>;
 
@@ -79,10 +83,44 @@ impl<'a> Script<'a> {
 }
 
 fn link_of(alloc: Global, script: Script<'_>) -> Result<MemLink, AllocError> {
-    let answers = link_answers(alloc, script.lines)?;
+    let answers = link_answers(alloc, Receiver::Link, script.lines)?;
     let receivings = script.failing(alloc, Call::Receive)?;
     let sends = script.failing(alloc, Call::Send)?;
     Ok(MemLink::failing(alloc, answers, receivings, sends))
+}
+
+// Whether the line wants a control socket of a relay.
+fn asks(line: &str) -> bool {
+    matches!(
+        read_event(line),
+        Some(Event::Control | Event::Ask(_, _) | Event::AskingCloses)
+    )
+}
+
+fn copies_of(alloc: Global, script: Script<'_>) -> Result<MemCopies, AllocError> {
+    let mut counts = Vec::new(alloc);
+    for line in script.lines.lines() {
+        if let Some(Event::Copies(sent, unsent)) = read_event(line) {
+            counts.push(CopyCount { sent, unsent })?;
+        }
+    }
+    Ok(MemCopies::new(counts))
+}
+
+fn control_of(
+    alloc: Global,
+    script: Script<'_>,
+) -> Result<Option<Control<MemLink, MemCopies>>, AllocError> {
+    if !script.lines.lines().any(asks) {
+        return Ok(None);
+    }
+    let answers = link_answers(alloc, Receiver::Control, script.lines)?;
+    let receivings = script.failing(alloc, Call::Ask)?;
+    let sends = script.failing(alloc, Call::Answer)?;
+    Ok(Some(Control {
+        link: MemLink::failing(alloc, answers, receivings, sends),
+        copies: copies_of(alloc, script)?,
+    }))
 }
 
 fn feed_of(alloc: Global, script: Script<'_>) -> Result<MemFeed, AllocError> {
@@ -166,6 +204,7 @@ fn relay_of<'a, R: Threads + Wait + 'static>(
 ) -> Result<OfRelay<'a, R>, AllocError> {
     let spawner = spawner_of(rt, alloc, script)?;
     let outs = outs_of(alloc, script)?;
+    let control = control_of(alloc, script)?;
     let givers = givers_of(alloc, script)?;
     Ok(RelayDevices {
         link: givers.link,
@@ -174,6 +213,7 @@ fn relay_of<'a, R: Threads + Wait + 'static>(
         words: givers.words,
         outs,
         spawner,
+        control,
     })
 }
 

@@ -16,6 +16,8 @@ pub enum Call {
     Send,
     Feed,
     Out,
+    Ask,
+    Answer,
     Word,
     Start,
 }
@@ -39,6 +41,8 @@ fn read_call(text: &str) -> Option<Call> {
         "link send" => Some(Call::Send),
         "feed" | "control" => Some(Call::Feed),
         "out" => Some(Call::Out),
+        "ask" => Some(Call::Ask),
+        "answer" => Some(Call::Answer),
         "word" => Some(Call::Word),
         "start" => Some(Call::Start),
         _ => None,

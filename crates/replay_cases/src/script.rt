@@ -19,8 +19,15 @@ pub enum Event<'a> {
     Packet(&'a str),
     /// The control feed gets a line, with escapes.
     Line(&'a str),
+    /// A relay has a control socket, whether or not a line comes to it.
+    Control,
+    /// A relay's control socket gets a line from a peer, with escapes.
+    Ask(Peer, &'a str),
+    /// What a relay's copies came to, when that is asked for the next time.
+    Copies(u64, u64),
     LinkCloses,
     FeedCloses,
+    AskingCloses,
     /// A relay's set has so many links out.
     Outs(u8),
 }
@@ -64,10 +71,29 @@ fn read_sweep<'a>(rest: &'a str) -> Option<Event<'a>> {
     ))
 }
 
+fn read_asking<'a>(rest: &'a str) -> Option<Event<'a>> {
+    let (peer, line) = rest.split_once(' ').unwrap_or((rest, ""));
+    if line.len() <= MOST_DIGITS {
+        Some(Event::Ask(parse_peer(peer.as_bytes())?, line))
+    } else {
+        None
+    }
+}
+
+// `SENT UNSENT`.
+fn read_copies<'a>(rest: &'a str) -> Option<Event<'a>> {
+    let (sent, unsent) = rest.split_once(' ')?;
+    Some(Event::Copies(
+        sent.parse::<u64>().ok()?,
+        unsent.parse::<u64>().ok()?,
+    ))
+}
+
 fn read_closing<'a>(device: &str) -> Option<Event<'a>> {
     match device {
         "link" => Some(Event::LinkCloses),
         "feed" | "control" => Some(Event::FeedCloses),
+        "asking" => Some(Event::AskingCloses),
         _ => None,
     }
 }
@@ -83,6 +109,9 @@ pub fn read_event<'a>(line: &'a str) -> Option<Event<'a>> {
         "sweep" => read_sweep(rest),
         "mc" if are_octets(rest) => Some(Event::Packet(rest)),
         "line" if rest.len() <= MOST_DIGITS => Some(Event::Line(rest)),
+        "control" if rest.is_empty() => Some(Event::Control),
+        "ask" => read_asking(rest),
+        "copies" => read_copies(rest),
         "closed" => read_closing(rest),
         "outs" => Some(Event::Outs(rest.parse::<u8>().ok()?)),
         _ => None,

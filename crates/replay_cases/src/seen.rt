@@ -2,6 +2,7 @@
 
 use crate::devices::{Set, Sets, number_of};
 use amt_ports::{MemOut, Tried};
+use amt_values::Peer;
 use replication_workers::Outs;
 use serving_commands::{DeviceSet, Opening};
 use std::alloc::{AllocError, Global};
@@ -47,11 +48,32 @@ fn append_outs(alloc: Global, text: &mut String, outs: &[MemOut]) -> Result<(), 
     Ok(())
 }
 
+// `=? PEER LINE` for each line of an answer, and whether the device didn't take its datagram.
+fn append_answer(alloc: Global, text: &mut String, tried: &Tried) -> Result<(), AllocError> {
+    let lines = String::from_utf8_lossy(alloc, tried.bytes.as_slice())?;
+    let fate = if tried.sent { "" } else { " failed" };
+    for line in lines.lines() {
+        write!(text, "=? {} {line}{fate}\n", tried.to)?;
+    }
+    Ok(())
+}
+
+fn append_answers(alloc: Global, text: &mut String, tried: &[Tried]) -> Result<(), AllocError> {
+    for one in tried {
+        append_answer(alloc, text, one)?;
+    }
+    Ok(())
+}
+
 fn append_set<R>(alloc: Global, text: &mut String, set: &Set<'_, R>) -> Result<(), AllocError> {
     match set {
         DeviceSet::Relay(devices) => {
             append_sends(alloc, text, "=", devices.link.tried())?;
-            append_outs(alloc, text, devices.outs.as_slice())
+            append_outs(alloc, text, devices.outs.as_slice())?;
+            match &devices.control {
+                Some(control) => append_answers(alloc, text, control.link.tried()),
+                None => Ok(()),
+            }
         }
         DeviceSet::Gateway(devices) => {
             append_sends(alloc, text, "=", devices.link.tried())?;
@@ -60,7 +82,8 @@ fn append_set<R>(alloc: Global, text: &mut String, set: &Set<'_, R>) -> Result<(
     }
 }
 
-/// What each device that came back tried to send: the link first, and then the links out in order.
+/// What each device that came back tried to send: the link first, then the links out in order, and then what a
+/// relay's control socket answered.
 pub fn sends_text<R>(alloc: Global, live: &Sets<'_, R>) -> Result<String, AllocError> {
     let mut text = String::new(alloc);
     for set in live.returned() {
@@ -69,13 +92,25 @@ pub fn sends_text<R>(alloc: Global, live: &Sets<'_, R>) -> Result<String, AllocE
     Ok(text)
 }
 
+// Where a control socket is asked for, if one is.
+fn append_control(text: &mut String, control: &Option<Peer>) -> Result<(), AllocError> {
+    match control {
+        Some(peer) => write!(text, " control {peer}\n"),
+        None => text.push_str("\n"),
+    }
+}
+
 fn append_opening(text: &mut String, opening: &Opening) -> Result<(), AllocError> {
     match opening {
         Opening::Relay {
             listen,
             feed,
+            control,
             slots,
-        } => write!(text, "open relay {listen} {feed} {slots}\n"),
+        } => {
+            write!(text, "open relay {listen} {feed} {slots}")?;
+            append_control(text, control)
+        }
         Opening::Gateway { listen, control } => write!(text, "open gateway {listen} {control}\n"),
     }
 }

@@ -1,4 +1,4 @@
-//! What comes to the link and to the feed of a case, turn by turn.
+//! What comes to the link, to the feed and to the control socket of a case, turn by turn.
 ghost use Rattle.std.specs.Prelude.{◌≤◌, All, IfOk, IfSome, OnOk, length};
 ghost use Rattle.amt_ports.specs.Arrivals.{IsShortAnswer, IsShortFeedAnswer};
 
@@ -54,11 +54,20 @@ fn first_and_zeros(alloc: Global, first: u8, length: u16) -> Result<Bytes, Alloc
     Ok(octets)
 }
 
-// How many answers of the link an event makes.
-fn heard(event: &Event) -> u8 {
-    match event {
-        Event::Datagram(_, _) | Event::LinkCloses => 1,
-        Event::Sweep(_, _, _) => 64,
+/// What datagrams come to with their source.
+#[derive(Clone, Copy, PartialEq, Eq)]
+pub enum Receiver {
+    Link,
+    /// A relay's control socket.
+    Control,
+}
+
+// How many answers of it an event makes.
+fn heard(at: Receiver, event: &Event) -> u8 {
+    match (at, event) {
+        (Receiver::Link, Event::Datagram(_, _) | Event::LinkCloses) => 1,
+        (Receiver::Link, Event::Sweep(_, _, _)) => 64,
+        (Receiver::Control, Event::Ask(_, _) | Event::AskingCloses) => 1,
         _ => 0,
     }
 }
@@ -74,13 +83,17 @@ fn link_answer(alloc: Global, event: &Event, number: u8) -> Result<LinkAnswer, A
             let octets = first_and_zeros(alloc, first.wrapping_add(number), *length)?;
             Ok(LinkAnswer::Datagram(*from, short(octets)?))
         }
-        Event::LinkCloses => Ok(LinkAnswer::Closed),
+        Event::Ask(from, line) => {
+            Ok(LinkAnswer::Datagram(*from, short(line_octets(alloc, line)?)?))
+        }
+        Event::LinkCloses | Event::AskingCloses => Ok(LinkAnswer::Closed),
         _ => Ok(LinkAnswer::Nothing),
     }
 }
 
 fn hear(
     alloc: Global,
+    at: Receiver,
     answers: &mut VecDeque<LinkAnswer>,
     began: &mut Option<usize>,
     line: &str,
@@ -97,20 +110,24 @@ fn hear(
         }
         *began = Some(answers.len());
     }
-    for number in 0..heard(&event) {
+    for number in 0..heard(at, &event) {
         answers.push_back(link_answer(alloc, &event, number)?)?;
     }
     Ok(())
 }
 
-/// What the link answers by the script. After that it is closed.
-pub fn link_answers(alloc: Global, script: &str) -> Result<VecDeque<LinkAnswer>, AllocError>
+/// What the receiver answers by the script. After that it is closed.
+pub fn link_answers(
+    alloc: Global,
+    at: Receiver,
+    script: &str,
+) -> Result<VecDeque<LinkAnswer>, AllocError>
     ensures { IfOk result (λ answers. All IsShortAnswer answers.items) }
 {
     let mut answers = VecDeque::new(alloc);
     let mut began = None;
     for line in script.lines() {
-        hear(alloc, &mut answers, &mut began, line)?;
+        hear(alloc, at, &mut answers, &mut began, line)?;
     }
     if ends_in_nothing(began, answers.len()) {
         answers.push_back(LinkAnswer::Nothing)?;
