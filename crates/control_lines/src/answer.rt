@@ -1,6 +1,6 @@
 //! Answers to control lines, cut into datagrams.
 
-ghost use Rattle.std.specs.Prelude.{◌≡◌, ◌≤◌, ◌<◌, ◌^◌, ◌++◌, ℕ, List, All, length, take, drop, OnOk, OnErr};
+ghost use Rattle.std.specs.Prelude.{◌≡◌, ◌≤◌, ◌<◌, ◌+◌, ◌^◌, ◌++◌, ℕ, List, All, length, take, drop, OnOk, OnErr};
 ghost use Rattle.std.specs.List.{concat};
 ghost use Rattle.amt_ports.specs.Devices.{link_at};
 ghost use Rattle.script_lines.specs.Texts.{BeginsWith, closing_text};
@@ -65,15 +65,15 @@ fn count_pieces(text: &[u8]) -> u64
 }
 
 // Tries to send the pieces of the first octets, each once and in order. What follows those goes with the last one.
-fn send_pieces<L: Link>(link: &mut L, to: &Peer, octets: &[u8], length: usize)
-    requires { length ≤ length octets.now }
-    ensures sent { (pieces : List (List ℕ)) × AreCut (take length octets.now) pieces
-        × HasSentTo to.now (closed pieces (drop length octets.now)) (link_at L.Link link.old) (link_at L.Link link.new) }
+fn send_pieces<L: Link>(link: &mut L, to: &Peer, octets: &[u8], size: usize)
+    requires { size ≤ length octets.now }
+    ensures sent { (pieces : List (List ℕ)) × AreCut (take size octets.now) pieces
+        × HasSentTo to.now (closed pieces (drop size octets.now)) (link_at L.Link link.old) (link_at L.Link link.new) }
     ensures coming { L.coming link.new ≡ L.coming link.old }
     ensures receive_faults { L.receive_faults link.new ≡ L.receive_faults link.old }
     ensures longest_wait { L.longest_wait link.new ≡ L.longest_wait link.old }
 {
-    let mut left = length;
+    let mut left = size;
     let mut rest = octets;
     while left > PIECE {
         let (piece, more) = cut_piece(rest);
@@ -97,13 +97,13 @@ pub fn answer_line<L: Link>(link: &mut L, to: &Peer, text: Bytes) -> Result<(), 
     ensures longest_wait { L.longest_wait link.new ≡ L.longest_wait link.old }
 {
     let mut text = text;
-    let length = text.len();
+    let size = text.len();
     let count = count_pieces(text.as_slice());
     match append_closing(&mut text, count) {
         Ok(()) => {}
         Err(error) => return Err(error),
     }
-    send_pieces(link, to, text.as_slice(), length);
+    send_pieces(link, to, text.as_slice(), size);
     Ok(())
 }
 
