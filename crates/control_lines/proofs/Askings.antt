@@ -1,6 +1,6 @@
 -- Lines that ask for something, and lines that don't.
-use Rattle.std.proofs.Common.{◌≡◌, ◌≤◌, ◌<◌, ℕ, List, [], ◌∷◌, length, get_or, codes, inl, inr, refl, sym, ap, subst, ◌∙◌, arith}
-use Rattle.amt_values.{specs.{Conditions.{First}, Text.{IsPeerText}, declared.peer.Peer.{Peer}}, proofs.Unique.{IsPeerText-unique}}
+use Rattle.std.proofs.Common.{◌≡◌, ◌≤◌, ℕ, List, [], ◌∷◌, length, get_or, codes, inl, inr, refl, sym, ap, subst, ◌∙◌, arith}
+use Rattle.amt_values.{specs.{Conditions.{First}, Text.{IsPeerText}}, proofs.Unique.{IsPeerText-unique}}
 use Rattle.script_lines.{specs.{Lines.{IsPlain, fields}, declared.reason.Reason.{Reason}}, proofs.Firsts.{First-holds}}
 use Rattle.script_lines.specs.declared.reason.Reason.TheVariants as reasons
 use Rattle.control_lines.specs.{Asking.{BeginsAsking, Fails, NamesNoPeer, SaysAsking, most_fields, order_of_reasons}, declared.asking.Asking.{Asking, TheVariants.{Counts, Show, ShowOf, Stop}}}

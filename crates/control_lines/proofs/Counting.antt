@@ -1,5 +1,5 @@
 -- How often words were said, and one word more; and the lines of the words that were said.
-use Rattle.std.{proofs.{Common.{◌≡◌, ℕ, zero, suc, ◌+◌, ◌<◌, ◌≤◌, Bool, true, false, cond, not, ◌&&◌, IsTrue, List, [], ◌∷◌, ◌++◌, length, min, map, take, drop, get_or, set, replicate, refl, sym, ap, ◌∙◌, ◌⊎◌, inl, inr, append_assoc, arith}, lemmas.{List.{drop_more, drop_all}, List.Sums.{sum_by_push}, Bool.{cases_lt, and_parts, not-true, or_parts, false_from_ne_true}, Slice.Eq.{bytes_eq-Decides}, Option.{same_Some, none-some}}}, specs.{Prelude.{Option, Some, slice_get}, List.{count_by, list_any}, Str.{bytes_eq}}}
+use Rattle.std.{proofs.{Common.{◌≡◌, ℕ, zero, suc, ◌+◌, ◌<◌, ◌≤◌, Bool, true, false, cond, not, List, [], ◌∷◌, ◌++◌, length, min, drop, get_or, set, replicate, refl, sym, ap, ◌∙◌, ◌⊎◌, inl, inr, append_assoc, arith}, lemmas.{List.{drop_more, drop_all}, List.Sums.{sum_by_push}, Bool.{cases_lt, and_parts, not-true, or_parts, false_from_ne_true}, Slice.Eq.{bytes_eq-Decides}, Option.{same_Some, none-some}}}, specs.{Prelude.{Some, slice_get}, List.{count_by, list_any}, Str.{bytes_eq}}}
 use Rattle.script_lines.specs.Texts.{BeginsWith}
 use Rattle.control_lines.specs.Tally.{AreApart, are_apart, numbers_of, tally_line, tally_text}
 
@@ -22,7 +22,7 @@ same_word word other is = (bytes_eq-Decides word other).1 is
 other_word : (word other : List ℕ) → bytes_eq word other ≡ false → bytes_eq other word ≡ false
 other_word word other apart =
     false_from_ne_true (bytes_eq other word) (λ (same : bytes_eq other word ≡ true).
-      let is = (bytes_eq-Decides word other).1 (sym ((bytes_eq-Decides other word).0 same)) in cc)
+    let is = (bytes_eq-Decides word other).1 (sym ((bytes_eq-Decides other word).0 same)) in cc)
 
 -- a word that is none of them changes no number
 others_same : (words said : List (List ℕ)) (word : List ℕ) → list_any (bytes_eq word) words ≡ false
@@ -31,7 +31,7 @@ others_same [] said word none = refl
 others_same (other ∷ words) said word none =
     let parts = or_parts (bytes_eq word other) (list_any (bytes_eq word) words) none in
     let same : count_by (bytes_eq other) (said ++ word ∷ []) ≡ count_by (bytes_eq other) said =
-          (let more = count_more other word said false (other_word word other parts.0) in omega (arith, more)) in
+    (let more = count_more other word said false (other_word word other parts.0) in omega (arith, more)) in
     λ i. same i ∷ others_same words said word parts.1 i
 
 -- the word at a place of the others
@@ -52,16 +52,16 @@ numbers_of-more (first ∷ words) said word zero apart is =
     let parts = and_parts (not (list_any (bytes_eq first) words)) (are_apart words) apart in
     let same = same_Some first word is in
     let none : list_any (bytes_eq word) words ≡ false =
-          ap (λ (one : List ℕ). list_any (bytes_eq one) words) (sym same) ∙ not-true (list_any (bytes_eq first) words) parts.0 in
+    ap (λ (one : List ℕ). list_any (bytes_eq one) words) (sym same) ∙ not-true (list_any (bytes_eq first) words) parts.0 in
     let one : count_by (bytes_eq first) said + 1 ≡ count_by (bytes_eq first) (said ++ word ∷ []) =
-          sym (count_more first word said true (same_word first word same)) in
+    sym (count_more first word said true (same_word first word same)) in
     let rest = sym (others_same words said word none) in
     λ i. one i ∷ rest i
 numbers_of-more (first ∷ words) said word (suc place) apart is =
     let parts = and_parts (not (list_any (bytes_eq first) words)) (are_apart words) apart in
     let other = at_later words first word place (not-true (list_any (bytes_eq first) words) parts.0) is in
     let same : count_by (bytes_eq first) said ≡ count_by (bytes_eq first) (said ++ word ∷ []) =
-          (let more = count_more first word said false other in omega (arith, more)) in
+    (let more = count_more first word said false other in omega (arith, more)) in
     λ i. same i ∷ numbers_of-more words said word place parts.1 is i
 
 -- the line of the word at one place, and those of the words after it

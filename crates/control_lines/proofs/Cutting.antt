@@ -1,5 +1,5 @@
 -- How a text is cut into pieces.
-use Rattle.std.{proofs.{Common.{◌≡◌, ◌≤◌, ◌<◌, ℕ, suc, ◌+◌, ◌-◌, ◌==◌, Bool, true, false, cond, not, List, [], ◌∷◌, ◌++◌, length, min, take, drop, get_or, refl, sym, ap, subst, ◌∙◌, arith}, lemmas.{List.{drop-drop, drop-take, length-take, length-take-le, take-take}, List.Sums.{suffix_len_is}, Bool.{cond-false, cond-true, cond_both, eq-eqb, false_from_ne_true, ne_eqb, not_from_false, not_from_true}}}, specs.{Prelude.{Some, None}, List.{suffix_len}}}
+use Rattle.std.{proofs.{Common.{◌≡◌, ◌≤◌, ◌<◌, ℕ, ◌+◌, ◌-◌, ◌==◌, Bool, not, List, [], ◌∷◌, ◌++◌, length, take, drop, get_or, refl, sym, ap, subst, ◌∙◌, arith}, lemmas.{List.{drop-drop, drop-take, length-take, length-take-le, take-take}, List.Sums.{suffix_len_is}, Bool.{cond-false, cond-true, cond_both, eq-eqb, false_from_ne_true, ne_eqb, not_from_false, not_from_true}}}, specs.{Prelude.{Some, None}}}
 use Rattle.memchr.specs.Find.{IsLastByte, is_byte}
 use Rattle.control_lines.specs.Answer.{AreCut, closed, lines_length, piece_length}
 
@@ -12,15 +12,15 @@ feeds_end octets place last =
     let within = last.0.high in
     let back : place + 1 - 1 ≡ place = omega arith in
     let rest = suffix_len_is is_no_feed octets (place + 1) 0 (omega (arith, within))
-          (λ at after before. not_from_false (get_or octets at 0 == 10) (false_from_ne_true (get_or octets at 0 == 10) (last.0.after at after before)))
-          (λ _. not_from_true (get_or octets (place + 1 - 1) 0 == 10) (ap (λ (at : ℕ). get_or octets at 0 == 10) back ∙ last.1)) in
+    (λ at after before. not_from_false (get_or octets at 0 == 10) (false_from_ne_true (get_or octets at 0 == 10) (last.0.after at after before)))
+    (λ _. not_from_true (get_or octets (place + 1 - 1) 0 == 10) (ap (λ (at : ℕ). get_or octets at 0 == 10) back ∙ last.1)) in
     omega (arith, rest, within)
 
 feeds_none : (octets : List ℕ) → IsLastByte (is_byte 10) octets None → lines_length octets ≡ 0
 feeds_none octets none =
     let rest = suffix_len_is is_no_feed octets 0 0 (omega arith)
-          (λ at after before. not_from_false (get_or octets at 0 == 10) (false_from_ne_true (get_or octets at 0 == 10) (none at after before)))
-          (λ some. absurd (omega (arith, some))) in
+    (λ at after before. not_from_false (get_or octets at 0 == 10) (false_from_ne_true (get_or octets at 0 == 10) (none at after before)))
+    (λ some. absurd (omega (arith, some))) in
     omega (arith, rest)
 
 pub piece_of_lines : (octets : List ℕ) (place : ℕ) → IsLastByte (is_byte 10) octets (Some place) → place + 1 ≡ piece_length octets
@@ -68,10 +68,10 @@ cut_of_beginning octets piece more left later_left later long within is after pa
     let size_is : length piece ≡ size = ap length is ∙ length-take-le size octets (omega (arith, small)) in
     let whole : size + later_left ≡ left = omega (arith, parts, size_is) in
     let is_piece : piece ≡ take (piece_length (take 1376 (take left octets))) (take left octets) =
-          is ∙ sym (take-take size left octets (omega (arith, small))) ∙ ap (λ (n : ℕ). take n (take left octets)) (sym same) in
+    is ∙ sym (take-take size left octets (omega (arith, small))) ∙ ap (λ (n : ℕ). take n (take left octets)) (sym same) in
     let is_rest : take later_left more ≡ drop (piece_length (take 1376 (take left octets))) (take left octets) =
-          ap (take later_left) after ∙ sym (drop-take size later_left octets) ∙ ap (λ (n : ℕ). drop size (take n octets)) whole
-          ∙ ap (λ (n : ℕ). drop n (take left octets)) (sym same) in
+    ap (take later_left) after ∙ sym (drop-take size later_left octets) ∙ ap (λ (n : ℕ). drop size (take n octets)) whole
+    ∙ ap (λ (n : ℕ). drop n (take left octets)) (sym same) in
     cut_more (take left octets) piece (take later_left more) later (omega (arith, length-take-le left octets within)) is_piece is_rest are
 
 -- what follows the beginning

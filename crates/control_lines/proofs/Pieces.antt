@@ -1,5 +1,5 @@
 -- The pieces of a text, and the datagrams of an answer.
-use Rattle.std.{proofs.{Common.{◌≡◌, ◌≤◌, ◌<◌, ◌^◌, ℕ, ◌+◌, ◌==◌, cond, List, [], ◌∷◌, ◌++◌, length, take, drop, decimal, All, refl, sym, ap, subst, ◌∙◌, append_assoc, length-append, arith}, lemmas.{Bool.{cond_both, eqb-false}, Fmt.{length-decimal-le_wide}, List.{append-nil, drop_at, length-drop, length-take, take_at, take-append-drop}, List.Elements.{All-cons, All-nil, All-same}}}, specs.List.{concat}}
+use Rattle.std.{proofs.{Common.{◌≡◌, ◌≤◌, ◌<◌, ◌^◌, ℕ, ◌+◌, ◌==◌, List, [], ◌∷◌, ◌++◌, length, take, drop, decimal, All, refl, sym, ap, subst, ◌∙◌, append_assoc, length-append, arith}, lemmas.{Bool.{cond_both, eqb-false}, Fmt.{length-decimal-le_wide}, List.{append-nil, drop_at, length-drop, length-take, take_at, take-append-drop}, List.Elements.{All-cons, All-nil, All-same}}}, specs.List.{concat}}
 use Rattle.amt_values.specs.declared.peer.Peer.{Peer}
 use Rattle.amt_ports.specs.Devices.{LinkSeen}
 use Rattle.script_lines.specs.Texts.{closing_text}

@@ -1,7 +1,7 @@
 -- What was sent to a peer so far, and one datagram more.
-use Rattle.std.{proofs.{Common.{◌≡◌, ◌≤◌, ◌<◌, ℕ, ◌+◌, true, false, List, [], ◌∷◌, ◌++◌, length, map, take, drop, refl, sym, ap, subst, ◌∙◌, append_assoc, arith}, lemmas.List.{length-take, map-append, take-append-drop}}, specs.Prelude.{IsSome, OnOk, Option, Result, Ok, Err}}
+use Rattle.std.{proofs.{Common.{◌≡◌, ◌≤◌, ◌<◌, ℕ, ◌+◌, List, [], ◌∷◌, ◌++◌, length, map, take, drop, refl, sym, ap, subst, ◌∙◌, append_assoc, arith}, lemmas.List.{length-take, map-append, take-append-drop}}, specs.Prelude.{IsSome, OnOk, Result, Ok, Err}}
 use Rattle.amt_values.specs.declared.peer.Peer.{Peer}
-use Rattle.amt_ports.{specs.{Causes.{HasCause}, Devices.{LinkSeen}, Sends.{TriedSend, tried_send}, Told.{Appends}, Tried.{HasTried}, declared.fault.Failed.{Failed}}, proofs.Trying.{HasTried-failed, HasTried-none, HasTried-sent}}
+use Rattle.amt_ports.{specs.{Causes.{HasCause}, Devices.{LinkSeen}, Sends.{tried_send}, Told.{Appends}, Tried.{HasTried}, declared.fault.Failed.{Failed}}, proofs.Trying.{HasTried-failed, HasTried-none, HasTried-sent}}
 use Rattle.control_lines.{specs.Answer.{AreCut, HasSentTo, closed, piece_length, sent_to}, proofs.Cutting.{closed-last, closing_of_beginning, cut_of_beginning}}
 
 -- one datagram more, which the link took or didn't
@@ -67,7 +67,7 @@ all_sent to octets rest size left before now after result so_far short appends t
     let last = take left rest in
     let whole : rest ≡ last ++ drop size octets = sym (take-append-drop left rest) ∙ ap (λ (line : List ℕ). last ++ line) so_far.closing in
     let datagrams : so_far.pieces ++ rest ∷ [] ≡ closed (so_far.pieces ++ last ∷ []) (drop size octets) =
-          ap (λ (one : List ℕ). so_far.pieces ++ one ∷ []) whole ∙ sym (closed-last so_far.pieces last (drop size octets)) in (
+    ap (λ (one : List ℕ). so_far.pieces ++ one ∷ []) whole ∙ sym (closed-last so_far.pieces last (drop size octets)) in (
       so_far.pieces ++ last ∷ [],
       so_far.cut (last ∷ []) (AreCut.whole last (omega (arith, short, length-take left rest))),
       subst (λ (all : List (List ℕ)). HasSentTo to all before after) datagrams (HasSentTo-more to so_far.pieces rest before now after result so_far.sent appends tells cause),

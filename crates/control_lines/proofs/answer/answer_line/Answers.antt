@@ -1,4 +1,4 @@
-use Rattle.std.proofs.Common.{◌≡◌, ◌++◌, ap, sym, ◌∙◌, subst, List, ℕ, length, rules}
+use Rattle.std.proofs.Common.{◌≡◌, ◌++◌, subst, List, ℕ, length, rules}
 use Rattle.amt_ports.specs.Devices.{link_at}
 use Rattle.script_lines.specs.Texts.{closing_text}
 use Rattle.control_lines.{specs.Answer.{AreCut}, proofs.Pieces.{replied}}

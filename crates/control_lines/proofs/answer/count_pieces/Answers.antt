@@ -1,4 +1,4 @@
-use Rattle.std.proofs.Common.{◌≡◌, ◌≤◌, ◌+◌, ℕ, List, [], ◌∷◌, length, sym, arith}
+use Rattle.std.proofs.Common.{[], ◌∷◌, arith}
 use Rattle.control_lines.{specs.Answer.{AreCut}, proofs.Cutting.{counted_more}}
 use Rattle.control_lines.proofs.answer.count_pieces.Goals as goal
 

@@ -1,4 +1,4 @@
-use Rattle.std.proofs.Common.{◌≡◌, List, ℕ, Ok, ap, subst, sym}
+use Rattle.std.proofs.Common.{List, ℕ, Ok, ap, subst}
 use Rattle.amt_values.specs.Conditions.{First}
 use Rattle.script_lines.specs.Lines.{fields}
 use Rattle.control_lines.{specs.Asking.{Fails, SaysAsking, line_of, order_of_reasons}, proofs.Askings.{SaysAsking-unique, asks_nothing}}

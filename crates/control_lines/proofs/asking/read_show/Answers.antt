@@ -1,4 +1,4 @@
-use Rattle.std.{proofs.{Common.{◌≡◌, ◌∷◌, [], List, ℕ, codes, rules}, lemmas.Option.{none-some}}}
+use Rattle.std.{proofs.{Common.{◌≡◌, ◌∷◌, [], codes, rules}, lemmas.Option.{none-some}}}
 use Rattle.script_lines.specs.Lines.{fields}
 use Rattle.control_lines.proofs.asking.read_show.Goals as goal
 

@@ -1,4 +1,4 @@
-use Rattle.std.proofs.{Common.{◌≡◌, ℕ, List, ◌+◌, ap, sym, ◌∙◌, get_or, set, length, arith}, lemmas.List.{get_or_read}}
+use Rattle.std.proofs.{Common.{◌≡◌, ℕ, List, ◌+◌, ap, ◌∙◌, get_or, set, length, arith}, lemmas.List.{get_or_read}}
 use Rattle.control_lines.specs.Tally.{numbers_of}
 use Rattle.control_lines.proofs.Counting.{numbers_of-more}
 use Rattle.control_lines.proofs.tally.Tally.count.Goals as goal
