@@ -8,15 +8,15 @@ use Rattle.control_lines.{specs.Answer.{AreCut, HasSentTo, closed, piece_length,
 pub HasSentTo-more : (to : Peer) (datagrams : List (List ℕ)) (bytes : List ℕ) (before now after : LinkSeen) (result : Result (Unit {0}) Failed) → HasSentTo to datagrams before now
     → Appends now.tried after.tried (tried_send to bytes result) → OnOk result (IsSome now.tried → IsSome after.tried) → HasCause now.send_faults after.send_faults result
     → HasSentTo to (datagrams ++ bytes ∷ []) before after
-HasSentTo-more to datagrams bytes before now after (Ok unit) so_far more tells cause =
+HasSentTo-more to datagrams bytes before now after (Ok unit) so_far more shown cause =
     record {
       sent = so_far.sent + 1;
       unsent = so_far.unsent;
       tried = subst (λ (wanted : List (Peer × List ℕ)). HasTried before.tried after.tried before.send_faults after.send_faults wanted (so_far.sent + 1) so_far.unsent)
           (sym (map-append (sent_to to) datagrams (bytes ∷ [])))
-          (HasTried-sent before.tried now.tried after.tried before.send_faults now.send_faults after.send_faults (map (sent_to to) datagrams) so_far.sent so_far.unsent to bytes (Ok unit) refl so_far.tried more tells cause.quiet);
+          (HasTried-sent before.tried now.tried after.tried before.send_faults now.send_faults after.send_faults (map (sent_to to) datagrams) so_far.sent so_far.unsent to bytes (Ok unit) refl so_far.tried more shown cause.quiet);
     }
-HasSentTo-more to datagrams bytes before now after (Err fault) so_far more tells cause =
+HasSentTo-more to datagrams bytes before now after (Err fault) so_far more shown cause =
     record {
       sent = so_far.sent;
       unsent = so_far.unsent + 1;
@@ -49,10 +49,10 @@ pub IsSending-more : (to : Peer) (octets rest piece more : List ℕ) (size left 
     → length piece + length more ≡ length rest → later_left + length piece ≡ left
     → Appends now.tried after.tried (tried_send to piece result) → OnOk result (IsSome now.tried → IsSome after.tried) → HasCause now.send_faults after.send_faults result
     → IsSending to octets more size later_left before after
-IsSending-more to octets rest piece more size left later_left before now after result so_far long is rest_is parts left_is appends tells cause =
+IsSending-more to octets rest piece more size left later_left before now after result so_far long is rest_is parts left_is appends shown cause =
     record {
       pieces = so_far.pieces ++ piece ∷ [];
-      sent = HasSentTo-more to so_far.pieces piece before now after result so_far.sent appends tells cause;
+      sent = HasSentTo-more to so_far.pieces piece before now after result so_far.sent appends shown cause;
       cut = λ later are. subst (AreCut (take size octets)) (sym (append_assoc so_far.pieces (piece ∷ []) later))
           (so_far.cut (piece ∷ later) (cut_of_beginning rest piece more left later_left later long so_far.within is rest_is left_is are));
       closing = closing_of_beginning rest piece more left later_left long so_far.within is rest_is left_is ∙ so_far.closing;
@@ -63,12 +63,12 @@ IsSending-more to octets rest piece more size left later_left before now after r
 pub all_sent : (to : Peer) (octets rest : List ℕ) (size left : ℕ) (before now after : LinkSeen) (result : Result (Unit {0}) Failed) → IsSending to octets rest size left before now → left ≤ 1376
     → Appends now.tried after.tried (tried_send to rest result) → OnOk result (IsSome now.tried → IsSome after.tried) → HasCause now.send_faults after.send_faults result
     → (pieces : List (List ℕ)) × AreCut (take size octets) pieces × HasSentTo to (closed pieces (drop size octets)) before after
-all_sent to octets rest size left before now after result so_far short appends tells cause =
+all_sent to octets rest size left before now after result so_far short appends shown cause =
     let last = take left rest in
     let whole : rest ≡ last ++ drop size octets = sym (take-append-drop left rest) ∙ ap (λ (line : List ℕ). last ++ line) so_far.closing in
     let datagrams : so_far.pieces ++ rest ∷ [] ≡ closed (so_far.pieces ++ last ∷ []) (drop size octets) =
     ap (λ (one : List ℕ). so_far.pieces ++ one ∷ []) whole ∙ sym (closed-last so_far.pieces last (drop size octets)) in (
       so_far.pieces ++ last ∷ [],
       so_far.cut (last ∷ []) (AreCut.whole last (omega (arith, short, length-take left rest))),
-      subst (λ (all : List (List ℕ)). HasSentTo to all before after) datagrams (HasSentTo-more to so_far.pieces rest before now after result so_far.sent appends tells cause),
+      subst (λ (all : List (List ℕ)). HasSentTo to all before after) datagrams (HasSentTo-more to so_far.pieces rest before now after result so_far.sent appends shown cause),
     )

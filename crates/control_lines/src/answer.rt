@@ -68,7 +68,8 @@ fn count_pieces(text: &[u8]) -> u64
 fn send_pieces<L: Link>(link: &mut L, to: &Peer, octets: &[u8], size: usize)
     requires { size ≤ length octets.now }
     ensures sent { (pieces : List (List ℕ)) × AreCut (take size octets.now) pieces
-        × HasSentTo to.now (closed pieces (drop size octets.now)) (link_at L.Link link.old) (link_at L.Link link.new) }
+        × HasSentTo to.now (closed pieces (drop size octets.now))
+        (link_at L.Link link.old) (link_at L.Link link.new) }
     ensures coming { L.coming link.new ≡ L.coming link.old }
     ensures receive_faults { L.receive_faults link.new ≡ L.receive_faults link.old }
     ensures longest_wait { L.longest_wait link.new ≡ L.longest_wait link.old }
@@ -89,7 +90,8 @@ fn send_pieces<L: Link>(link: &mut L, to: &Peer, octets: &[u8], size: usize)
 /// The text is cut after line feeds where it can be. After its last piece stands the line `. N`, the number of
 /// datagrams. Where memory runs out for that line, nothing is sent.
 pub fn answer_line<L: Link>(link: &mut L, to: &Peer, text: Bytes) -> Result<(), AllocError>
-    ensures answered { OnOk result (HasReplied to.now text (link_at L.Link link.old) (link_at L.Link link.new)) }
+    ensures answered { OnOk result
+        (HasReplied to.now text (link_at L.Link link.old) (link_at L.Link link.new)) }
     ensures none { OnErr result (link_at L.Link link.new ≡ link_at L.Link link.old) }
 
     ensures coming { L.coming link.new ≡ L.coming link.old }
@@ -109,8 +111,8 @@ pub fn answer_line<L: Link>(link: &mut L, to: &Peer, text: Bytes) -> Result<(), 
 
 /// Each datagram of an answer has at most 1,400 octets.
 pub fn answers_are_small()
-    ensures { (text : List ℕ) (datagrams : List (List ℕ)) → length text < 2 ^ 64 → IsAnswer text datagrams
-        → All (λ datagram. length datagram ≤ 1400) datagrams }
+    ensures { (text : List ℕ) (datagrams : List (List ℕ)) → length text < 2 ^ 64
+        → IsAnswer text datagrams → All (λ datagram. length datagram ≤ 1400) datagrams }
 {}
 
 /// The datagrams of an answer are the text and the line that closes it, and a text has one answer only.

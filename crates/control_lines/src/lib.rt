@@ -4,7 +4,7 @@
 //! none. An answer is cut into datagrams in one way, each of at most 1,400 octets, and each is tried once. A tally
 //! is how often each word was said.
 //! It knows no relay, and of devices the trait of links alone.
-//! Standard: none of its own; the formats stand in docs/FORMATS.md.
+//! Standard: none of its own; the lines stand in this crate's README.
 #![tactic(auto)]
 
 mod answer;

@@ -67,7 +67,8 @@ fn append_number(text: &mut Bytes, word: &str, number: u64) -> Result<(), AllocE
 
 /// Puts a line `= WORD N` at the end for each word that was said, in order.
 pub fn append_tally(text: &mut Bytes, words: &[&str], tally: &Tally) -> Result<(), AllocError>
-    ensures text { OnOk result (text.new ≡ text.old ++ tally_text (map (λ word. word.now) words.now) tally.now) }
+    ensures text { OnOk result
+        (text.new ≡ text.old ++ tally_text (map (λ word. word.now) words.now) tally.now) }
     ensures begun { OnErr result (BeginsWith text.new text.old) }
 {
     for (word, number) in words.iter().zip(tally.numbers.iter()) {
@@ -78,5 +79,6 @@ pub fn append_tally(text: &mut Bytes, words: &[&str], tally: &Tally) -> Result<(
 
 /// No word was said more often than all of them together. It does nothing when it runs.
 pub fn numbers_are_few()
-    ensures { (words said : List (List ℕ)) → All (λ number. number ≤ length said) (numbers_of words said) }
+    ensures { (words said : List (List ℕ))
+        → All (λ number. number ≤ length said) (numbers_of words said) }
 {}
