@@ -1,33 +1,18 @@
 -- Peers that have to be on the loopback.
-use Rattle.std.proofs.Common.{◌≡◌, ℕ, Bool, true, false, List, Option, Some, None, inl, inr, refl, sym, subst}
+use Rattle.std.proofs.Common.{◌≡◌, ℕ, Bool, true, false, List, Option, Some, None, inl, inr, refl, sym, subst, ◌∙◌}
 use Rattle.std.specs.Option.{option_and_then}
 use Rattle.amt_values.{specs.{declared.peer.Peer.{Peer}, Text.{IsPeerText}}, proofs.Unique.{IsPeerText-unique}}
 use Rattle.script_lines.specs.Form.{a_peer}
 use Rattle.toml.specs.Data.{Data, Members, as_str, get_member}
-use Rattle.amt_config.specs.{Key.{Fails, FailsBy, HasOptional, IsRight, IsUnfit, RefusesPeer, a_guarded_peer, a_text, optional, read_at}, Loopback.{IsAwayText, IsGuardedText, may_be_at}, Reading.{MayFail}, declared.fault.{ConfigFault.{ConfigFault}, KeyFault.{KeyFault, TheVariants.{Loopback}}}}
-use Rattle.amt_config.proofs.Faults.{fails_unfit, right_absent}
+use Rattle.amt_config.specs.{Key.{FailsBy, HasOptional, IsRight, IsUnfit, RefusesPeer, a_guarded_peer, optional, read_at}, Loopback.{IsAwayText, IsGuardedText, may_be_at}, declared.fault.KeyFault.{KeyFault}}
+use Rattle.amt_config.proofs.Faults.{right_absent}
 
 pub guarded_unique : (anywhere : Bool) (one other : Peer) (text : List ℕ) → IsGuardedText anywhere one text → IsGuardedText anywhere other text → one ≡ other
 guarded_unique anywhere one other text h k = IsPeerText-unique one other text h.0 k.0
 
--- what is no peer is no guarded peer
-as_peer_by : (word : List ℕ) (anywhere : Bool) (found : Option Data) (cause : KeyFault) → FailsBy (optional word (a_text a_peer)) found cause
-    → FailsBy (optional word (a_guarded_peer anywhere)) found cause
-as_peer_by word anywhere None cause fails = fails
-as_peer_by word anywhere (Some value) cause fails = inl fails
-
-pub fails_as_peer : (word : List ℕ) (anywhere : Bool) (table : Members) (fault : ConfigFault) → MayFail table (optional word (a_text a_peer)) fault
-    → MayFail table (optional word (a_guarded_peer anywhere)) fault
-fails_as_peer word anywhere table fault fails = elim fails.is [
-  | inl is ↦ record { is = inl (is.0, as_peer_by word anywhere (get_member word table) is.0 is.1, is.2) }
-  | inr memory ↦ record { is = inr memory }
-]
-
--- nor is a peer that isn't where it may be
-pub fails_away : (word : List ℕ) (anywhere : Bool) (table : Members) (peer : Peer) → HasOptional word table IsPeerText (Some peer) → may_be_at anywhere peer.ip ≡ false
-    → Fails (optional word (a_guarded_peer anywhere)) table Loopback
-fails_away word anywhere table peer named away =
-    fails_unfit as_str (IsAwayText anywhere) Loopback (optional word (a_guarded_peer anywhere)) table (λ value fault h. inr h) named.0 named.1 (peer, named.2, away)
+pub as_guarded : (word : List ℕ) (anywhere : Bool) (table : Members) (peer : Peer) → HasOptional word table IsPeerText (Some peer) → may_be_at anywhere peer.ip ≡ true
+    → HasOptional word table (IsGuardedText anywhere) (Some peer)
+as_guarded word anywhere table peer named near = (named.0, named.1, (named.2, near))
 
 -- one that is there is right
 near_or_away : (anywhere : Bool) (one other : Peer) → one ≡ other → may_be_at anywhere one.ip ≡ true → may_be_at anywhere other.ip ≡ false → ⊥
