@@ -1,6 +1,6 @@
 -- The fault of a key, and the first of several keys.
 use Rattle.std.{proofs.Common.{◌≡◌, ◌⊎◌, ℕ, Bool, true, false, List, [], ◌∷◌, Option, Some, None, Bor, option_map, inl, inr, refl, sym, subst, ap, ◌∙◌}, specs.{List.{AllByRecursion}, Option.{option_and_then}}}
-use Rattle.script_lines.specs.Form.{Form, a_peer}
+use Rattle.script_lines.specs.Form.{Form}
 use Rattle.toml.specs.{Data.{Data, Members, as_bool, as_integer, as_str, get_member}, View.{view}, declared.value.Value.{Value}}
 use Rattle.amt_config.specs.{Arrays.{as_tables, as_texts}, declared.fault.{ConfigFault.{ConfigFault, TheVariants.{Memory}}, KeyFault.{KeyFault, TheVariants.{Missing, Kind, Range}}}, Key.{Fails, FailsBy, IsOutside, IsRight, IsSomeUnfit, IsUnfit, Key, Refuses, RefusesAs, RefusesPeer, Want, a_boolean, a_guarded_peer, a_text, a_whole, fault_of, read_at, reason_of, some_tables, some_texts, text_key}, Reading.{MayFail}, Table.{FirstOf, IsFaultOf, told}}
 

@@ -4,7 +4,7 @@ use Rattle.std.specs.Option.{option_and_then}
 use Rattle.amt_values.{specs.{declared.peer.Peer.{Peer}, Text.{IsPeerText}}, proofs.Unique.{IsPeerText-unique}}
 use Rattle.script_lines.specs.Form.{a_peer}
 use Rattle.toml.specs.Data.{Data, Members, as_str, get_member}
-use Rattle.amt_config.specs.{Key.{FailsBy, HasOptional, IsRight, IsUnfit, RefusesPeer, a_guarded_peer, optional, read_at}, Loopback.{IsAwayText, IsGuardedText, may_be_at}, declared.fault.KeyFault.{KeyFault}}
+use Rattle.amt_config.specs.{Key.{FailsBy, HasOptional, IsRight, IsUnfit, RefusesPeer, a_guarded_peer, optional}, Loopback.{IsAwayText, IsGuardedText, may_be_at}, declared.fault.KeyFault.{KeyFault}}
 use Rattle.amt_config.proofs.Faults.{right_absent}
 
 pub guarded_unique : (anywhere : Bool) (one other : Peer) (text : List ℕ) → IsGuardedText anywhere one text → IsGuardedText anywhere other text → one ≡ other

@@ -1,5 +1,5 @@
 -- A relay's table has one configuration, or one first fault.
-use Rattle.std.{proofs.Common.{◌≡◌, ◌⊎◌, ◌≤◌, ◌<◌, ◌*◌, ℕ, Bool, true, false, List, Option, None, Some, codes, inl, inr, refl, sym, subst, ap, ◌∙◌, arith}, specs.Option.{option_and_then, unwrap_or}}
+use Rattle.std.{proofs.Common.{◌≡◌, ◌⊎◌, ◌≤◌, ◌<◌, ◌*◌, ℕ, Bool, true, false, List, Option, None, Some, codes, inl, inr, sym, subst, ap, ◌∙◌, arith}, specs.Option.{option_and_then, unwrap_or}}
 use Rattle.amt_values.{specs.{declared.address.Ip.TheVariants.{V4, V6}, Text.{IsIpText, IsPeerText}, Conditions.{First}}, proofs.Unique.{IsIpText-unique, IsPeerText-unique}}
 use Rattle.relay_machine.specs.{declared.number_key.{NumberKey.{NumberKey, TheVariants.{Robustness, QuerySeconds, ResponseTenths, Secrets, Endpoints, Groups, Sources, PacketLimit}}, NumberRange.{NumberRange}}, Settings.{AreLawfulSettings, HasCode, IsInKeyRange, number_at, number_row}}
 use Rattle.script_lines.{proofs.Firsts.{First-holds, First-unique}, specs.Form.{a_peer, an_address, an_address4, an_address6}}
