@@ -734,6 +734,45 @@ def programs_of_the_host_join_at_a_tun_device(lan):
 
 
 @test
+def a_host_that_checks_the_way_back_needs_a_route_there(lan):
+    lan.write(lan.far, f"ipv4/conf/{DEVICE}/rp_filter", "1")
+    try:
+        with delivering(lan) as tool, gateway_of(lan) as deliver:
+            host = Host(lan, GROUP)
+            deliver(udp(SOURCE, GROUP, b"no route"))
+            nothing_more(host.socket, 1)
+            ip("-n", lan.far, "route", "add", "default", "via", NEAR_IP)
+            deliver(udp(SOURCE, GROUP, b"a route"))
+            expect(host.receive(1) == [b"a route"], "nothing came")
+            host.close()
+            finish(tool, sent=2)
+    finally:
+        subprocess.run(["ip", "-n", lan.far, "route", "del", "default"], check=False, stderr=subprocess.DEVNULL)
+        lan.write(lan.far, f"ipv4/conf/{DEVICE}/rp_filter", "0")
+
+
+@test
+def programs_of_the_host_join_at_the_other_end_of_a_veth_pair(lan):
+    ip("-n", lan.near, "link", "add", "lan1", "type", "veth", "peer", "name", "host1")
+    try:
+        ip("-n", lan.near, "addr", "add", "198.51.101.1/24", "dev", "host1")
+        for it in ("lan1", "host1"):
+            ip("-n", lan.near, "link", "set", it, "up")
+        with control_of(lan) as control, running(lan, "amt-join", "--interface", "lan1", "--family", "v4", "--control", f"127.0.0.1:{CONTROL}"):
+            hears(control, "leave")
+            with delivering(lan, "--interface", "lan1") as tool, gateway_of(lan) as deliver:
+                host = Host(lan, GROUP, SOURCE, where=lan.near, device="host1")
+                hears(control, f"open 233_252_0_1 {GROUP} include {SOURCE}")
+                deliver(udp(SOURCE, GROUP, b"to itself"))
+                expect(host.receive(1) == [b"to itself"], "nothing came")
+                host.close()
+                hears(control, "close 233_252_0_1")
+                finish(tool, sent=1)
+    finally:
+        ip("-n", lan.near, "link", "del", "lan1")
+
+
+@test
 def an_interface_that_is_down_is_counted_and_may_come_up(lan):
     with wire_of(lan) as wire, delivering(lan) as tool, gateway_of(lan) as deliver:
         ip("-n", lan.near, "link", "set", DEVICE, "down")
