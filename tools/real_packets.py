@@ -467,7 +467,7 @@ def a_signal_ends_it_with_status_0_and_the_counts(lan):
 
 
 @test
-def the_counts_are_printed_each_so_many_seconds(lan):
+def the_counts_are_printed_at_an_interval(lan):
     for name, start in STARTS.items():
         with running(lan, name, *start, "--report", "1") as tool:
             until = time.monotonic() + 8
@@ -840,7 +840,7 @@ def what_several_hosts_want_is_merged(lan):
         hears(control, f"change 233_252_0_1 exclude {SOURCE} 203.0.113.9")
         wire.send(report3("198.51.100.12", [(IS_EX, GROUP, [SOURCE])]), b"\2\0\0\0\0\x12")
         hears(control, f"change 233_252_0_1 exclude {SOURCE}")
-        # Two hosts that have no address yet are told apart by their link addresses.
+        # Two hosts that have no address yet differ by their link addresses.
         for last in (0x11, 0x12):
             wire.send(report3(f"198.51.100.{last}", [(TO_IN, GROUP, [])]), bytes([2, 0, 0, 0, 0, last]))
         for link in (b"\2\0\0\0\0\x13", b"\2\0\0\0\0\x14"):
@@ -958,7 +958,7 @@ def only_the_wanted_groups_are_joined(lan):
 
 
 @test
-def a_gateway_that_was_gone_is_told_all(lan):
+def a_gateway_that_was_gone_gets_all_again(lan):
     with wire_of(lan) as wire, joining(lan, "v4", "--no-query", "--repeat", "4") as tool:
         wire.send(report3("198.51.100.10", [(IS_EX, GROUP, [])]))
         wire.send(report3("198.51.100.10", [(IS_IN, OTHER, [SOURCE])]))

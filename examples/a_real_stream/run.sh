@@ -17,7 +17,7 @@ amt=${1:-${AMT:-$here/../../crates/amt/out/amt}}
 group4=233.252.0.1
 group6=ff3e::8000:1
 port=5004
-# As many packets go to each group at a hundred a second; so many are enough until the first one comes; so many go out at last.
+# How many packets go to each group, at a hundred a second; which one has to come at the latest; and how many go out at last.
 packets=400
 patience=300
 afterwards=50
@@ -57,7 +57,7 @@ link() {
 at() {
     local name=$1 device=$2 address
     shift 2
-    for address; do ip -n "$name" address add "$address" dev "$device" nodad; done
+    for address; do ip -n "$name" address add "$address" dev "$device"; done
 }
 
 # inside NAME COMMAND..: runs a command there

@@ -1,4 +1,4 @@
-"""A multicast sender: for each line of its input, a number, it sends so many packets to each of two groups.
+"""A multicast sender: for each line of its input, a number, it sends this number of packets to each of its groups.
 
 usage: python3 source.py INTERFACE PORT GROUP..
 
