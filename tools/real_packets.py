@@ -230,7 +230,8 @@ def what_the_host_itself_sends_is_passed_where_that_is_wanted(lan):
                     sender.sendto(b"own", (group, PORT))
             wire.send(udp(SOURCE, GROUP, b"end"))
             got = receive(feed, wanted + 1)
-            expect(len(got) == wanted + 1 and got[-1] == udp(SOURCE, GROUP, b"end"), f"{words}: {got}")
+            # (which family comes first is open)
+            expect(len(got) == wanted + 1 and udp(SOURCE, GROUP, b"end") in got, f"{words}: {got}")
             for it in got:
                 expect_sound(it)
             finish(tool, passed=wanted + 1)
