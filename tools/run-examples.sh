@@ -4,11 +4,11 @@
 # usage: tools/run-examples.sh [COMMAND]      COMMAND is the binary of `amt`, and crates/amt/out/amt without it
 #
 # A folder of examples/ with a `script` is replayed, and an `answer` of DNS is told, as its README says; a `capture` has to
-# become its `script` and its `lines`. One with a `run.sh` is run over the loopback,
-# for some seconds; where it has a script besides, its status counts alone. In the `expected` of such a run NONCE, MAC
-# and PORT stand for what is random, and N for a number that depends on how often a message had to be sent again. A line
-# that comes several times in a row, as a message that is sent again, counts once. A folder with neither has nothing to
-# run.
+# become its `script` and its `lines`. One with a `run.sh` is run over the loopback, or a_real_stream between network
+# namespaces where this user may make some, for some seconds; where it has a script besides, its status counts alone. In the
+# `expected` of such a run NONCE, MAC and PORT stand for what is random, and N for a number that depends on how often a
+# message had to be sent again. A line that comes several times in a row, as a message that is sent again, counts once. A
+# folder with neither has nothing to run.
 #
 # It says of each folder whether it passed, and ends with 1 where one did not.
 set -eu
@@ -95,8 +95,22 @@ run() {
     say "$(basename "$1")" "run" $status
 }
 
+# may_run FOLDER: this user may run it here
+may_run() {
+    [ "$(basename "$1")" != a_real_stream ] && return
+    [ -e /proc/sys/net/ipv6/conf ] || return
+    ip netns add "amt-try-$$" 2> /dev/null && ip -n "amt-try-$$" link add amt0 type veth peer name amt1 2> /dev/null
+    local status=$?
+    ip netns del "amt-try-$$" 2> /dev/null
+    return $status
+}
+
 for folder in "$top"/examples/*/; do
     folder=${folder%/}
+    if ! may_run "$folder"; then
+        echo "nothing $(basename "$folder"): this user can't make network namespaces here, or there is no IPv6"
+        continue
+    fi
     if [ -e "$folder/script" ]; then tell "$folder" script "$(named 'replay \(relay\|upstream\|gateway\|pair\|dual\)' "$folder")"; fi
     if [ -e "$folder/capture" ]; then captured "$folder"; fi
     if [ -e "$folder/answer" ]; then tell "$folder" answer "$(named 'dns [0-9a-f.:]*' "$folder")"; fi
