@@ -1,16 +1,28 @@
 -- The fault of a key, and the first of several keys.
 use Rattle.std.{proofs.Common.{◌≡◌, ◌⊎◌, ℕ, Bool, true, false, List, [], ◌∷◌, Option, Some, None, Bor, option_map, inl, inr, refl, sym, subst, ap, ◌∙◌}, specs.{List.{AllByRecursion}, Option.{option_and_then}}}
 use Rattle.script_lines.specs.Form.{Form}
-use Rattle.toml.specs.{Data.{Data, Members, as_integer, as_str, get_member}, View.{view}, declared.value.Value.{Value}}
-use Rattle.amt_config.specs.{Arrays.{as_tables, as_texts}, declared.fault.{ConfigFault.{ConfigFault, TheVariants.{Memory}}, KeyFault.{KeyFault, TheVariants.{Missing, Kind, Range}}}, Key.{Fails, FailsBy, IsOutside, IsRight, IsSomeUnfit, IsUnfit, Key, Refuses, RefusesAs, Want, a_text, a_whole, fault_of, read_at, reason_of, some_tables, some_texts, text_key}, Reading.{MayFail}, Table.{FirstOf, IsFaultOf, told}}
+use Rattle.toml.specs.{Data.{Data, Members, as_bool, as_integer, as_str, get_member}, View.{view}, declared.value.Value.{Value}}
+use Rattle.amt_config.specs.{Arrays.{as_tables, as_texts}, declared.fault.{ConfigFault.{ConfigFault, TheVariants.{Memory}}, KeyFault.{KeyFault, TheVariants.{Missing, Kind, Range}}}, Key.{Fails, FailsBy, IsOutside, IsRight, IsSomeUnfit, IsUnfit, Key, Refuses, RefusesAs, RefusesPeer, Want, a_boolean, a_guarded_peer, a_text, a_whole, fault_of, read_at, reason_of, some_tables, some_texts, text_key}, Reading.{MayFail}, Table.{FirstOf, IsFaultOf, told}}
 
 -- a key has one fault
 one_refused : {X : Type 0} (r : Option X) (Unfit : X → Type 0) (cause one other : KeyFault) → RefusesAs r Unfit cause one → RefusesAs r Unfit cause other → one ≡ other
 one_refused None Unfit cause one other h k = h ∙ sym k
 one_refused (Some x) Unfit cause one other h k = h.1 ∙ sym k.1
 
+one_refused_peer : (anywhere : Bool) (r : Option (List ℕ)) (one other : KeyFault) → RefusesPeer anywhere r one → RefusesPeer anywhere r other → one ≡ other
+one_refused_peer anywhere None one other (inl h) (inl k) = h ∙ sym k
+one_refused_peer anywhere None one other (inl h) (inr k) = h ∙ sym k
+one_refused_peer anywhere None one other (inr h) (inl k) = h ∙ sym k
+one_refused_peer anywhere None one other (inr h) (inr k) = h ∙ sym k
+one_refused_peer anywhere (Some text) one other (inl h) (inl k) = h.1 ∙ sym k.1
+one_refused_peer anywhere (Some text) one other (inl h) (inr k) = absurd (h.0 k.0.0 k.0.1)
+one_refused_peer anywhere (Some text) one other (inr h) (inl k) = absurd (k.0 h.0.0 h.0.1)
+one_refused_peer anywhere (Some text) one other (inr h) (inr k) = h.1 ∙ sym k.1
+
 one_refusal : (want : Want) (value : Data) (one other : KeyFault) → Refuses want value one → Refuses want value other → one ≡ other
 one_refusal (a_text form) value one other h k = one_refused (as_str value) (IsUnfit form) (fault_of (reason_of form)) one other h k
+one_refusal (a_guarded_peer anywhere) value one other h k = one_refused_peer anywhere (as_str value) one other h k
+one_refusal a_boolean value one other h k = one_refused (as_bool value) (λ flag. ⊥) Kind one other h k
 one_refusal (a_whole range) value one other h k = one_refused (as_integer value) (IsOutside range) Range one other h k
 one_refusal (some_texts form) value one other h k = one_refused (as_texts value) (IsSomeUnfit form) (fault_of (reason_of form)) one other h k
 one_refusal some_tables value one other h k = one_refused (as_tables value) (λ tables. ⊥) Range one other h k

@@ -1,6 +1,7 @@
 mod Exactness
 mod Faults
 mod GatewayLaws
+mod Guarded
 mod Items
 mod JoinLaws
 pub mod OpenedJoins

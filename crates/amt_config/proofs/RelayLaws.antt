@@ -1,13 +1,13 @@
 -- A relay's table has one configuration, or one first fault.
-use Rattle.std.proofs.Common.{◌≡◌, ◌⊎◌, ◌≤◌, ◌<◌, ◌*◌, ℕ, true, List, codes, inl, inr, sym, subst, ap, ◌∙◌, arith}
+use Rattle.std.{proofs.Common.{◌≡◌, ◌⊎◌, ◌≤◌, ◌<◌, ◌*◌, ℕ, Bool, true, false, List, Option, None, Some, codes, inl, inr, sym, subst, ap, ◌∙◌, arith}, specs.Option.{option_and_then, unwrap_or}}
 use Rattle.amt_values.{specs.{declared.address.Ip.TheVariants.{V4, V6}, Text.{IsIpText, IsPeerText}, Conditions.{First}}, proofs.Unique.{IsIpText-unique, IsPeerText-unique}}
 use Rattle.relay_machine.specs.{declared.number_key.{NumberKey.{NumberKey, TheVariants.{Robustness, QuerySeconds, ResponseTenths, Secrets, Endpoints, Groups, Sources, PacketLimit}}, NumberRange.{NumberRange}}, Settings.{AreLawfulSettings, HasCode, IsInKeyRange, number_at, number_row}}
 use Rattle.script_lines.{proofs.Firsts.{First-holds, First-unique}, specs.Form.{a_peer, an_address, an_address4, an_address6}}
 use Rattle.amt_script.specs.declared.kind.Key.TheVariants as words
 use Rattle.amt_script.specs.Row.{key_word, number_word}
-use Rattle.toml.specs.Data.{Members}
-use Rattle.amt_config.specs.{declared.{config.RelayConfig.{RelayConfig}, fault.ConfigFault.{ConfigFault}}, Key.{HasWholeNumber, IsRight}, Relay.{FailsTogether, HasValues, IsFaultTogether, RelayConfigOf, number_key, range_of, relay_keys, rotate_range, settings_of, together_order, workers_range}, Table.{IsValueFault}}
-use Rattle.amt_config.proofs.{Faults.{AreRight, also, by_else}, Values.{right_number, right_text, right_text_or, same_number, same_text, same_text_or}}
+use Rattle.toml.specs.Data.{Data, Members, as_bool, get_member}
+use Rattle.amt_config.specs.{declared.{config.RelayConfig.{RelayConfig}, fault.ConfigFault.{ConfigFault}}, Key.{HasBoolean, HasOptional, HasWholeNumber, IsRight}, Loopback.{IsGuardedText}, Relay.{FailsTogether, HasValues, IsFaultTogether, RelayConfigOf, number_key, range_of, relay_keys, rotate_range, settings_of, table_anywhere, together_order, workers_range}, Table.{IsValueFault}}
+use Rattle.amt_config.proofs.{Faults.{AreRight, also, by_else}, Guarded.{guarded_unique, right_guarded}, Values.{right_boolean, right_number, right_text, right_text_or, same_boolean, same_number, same_optional, same_text, same_text_or}}
 use Rattle.amt_config.specs.declared.fault.ConfigFault.TheVariants as faults
 
 v4_unique : (one other : ℕ) (text : List ℕ) → IsIpText (V4 one) text → IsIpText (V4 other) text → one ≡ other
@@ -16,14 +16,27 @@ v4_unique one other text h k = let same : V4 one ≡ V4 other = IsIpText-unique 
 v6_unique : (one other : ℕ) (text : List ℕ) → IsIpText (V6 one) text → IsIpText (V6 other) text → one ≡ other
 v6_unique one other text h k = let same : V6 one ≡ V6 other = IsIpText-unique (V6 one) (V6 other) text h k in cc
 
+-- what a table says of the control socket
+anywhere_by : (found : Option Data) (flag : Bool) → found ≡ None → flag ≡ false → unwrap_or (option_and_then as_bool found) false ≡ flag
+anywhere_by None flag none off = sym off
+anywhere_by (Some value) flag none off = cc none
+
+pub anywhere_is : (table : Members) (flag : Bool) → HasBoolean (codes "control_anywhere") table flag → table_anywhere table ≡ flag
+anywhere_is table flag (inl absent) = anywhere_by (get_member (codes "control_anywhere") table) flag absent.0 absent.1
+anywhere_is table flag (inr there) = ap (λ (o : Option Bool). unwrap_or o false) there
+
 pub same_values : (table : Members) (one other : RelayConfig) → HasValues table one → HasValues table other → one ≡ other
 same_values table one other h k =
     let numbers : (key : NumberKey) → number_at (settings_of one) key ≡ number_at (settings_of other) key =
     λ key. same_number (number_word key) (range_of key) table _ _ (h.numbers key) (k.numbers key) in
+    let anywhere = same_boolean (codes "control_anywhere") table _ _ h.anywhere k.anywhere in
+    let control = subst (λ (a : Bool). HasOptional (codes "control") table (IsGuardedText a) one.control) anywhere h.control in
     λ i. record {
       relay = same_text IsIpText IsIpText-unique (key_word words.Relay) table _ _ h.relay k.relay i;
       listen = same_text IsPeerText IsPeerText-unique (codes "listen") table _ _ h.listen k.listen i;
       feed = same_text IsPeerText IsPeerText-unique (codes "feed") table _ _ h.feed k.feed i;
+      control_anywhere = anywhere i;
+      control = same_optional (IsGuardedText other.control_anywhere) (guarded_unique other.control_anywhere) (codes "control") table _ _ control k.control i;
       query4 = same_text_or (λ (n : ℕ). IsIpText (V4 n)) v4_unique (key_word words.Query4) table _ _ _ h.query4 k.query4 i;
       query6 = same_text_or (λ (n : ℕ). IsIpText (V6 n)) v6_unique (key_word words.Query6) table _ _ _ h.query6 k.query6 i;
       robustness = numbers Robustness i;
@@ -38,19 +51,22 @@ same_values table one other h k =
       workers = same_number (codes "workers") workers_range table _ _ h.workers k.workers i;
     }
 
-pub right_keys : (table : Members) (config : RelayConfig) → HasValues table config → AreRight table relay_keys
+pub right_keys : (table : Members) (config : RelayConfig) → HasValues table config → AreRight table (relay_keys (table_anywhere table))
 right_keys table config h =
     let number : (key : NumberKey) → IsRight table (number_key key) =
     λ key. right_number (number_word key) (range_of key) table (number_at (settings_of config) key) (h.numbers key) in
-    also (right_text an_address (IsIpText config.relay) (λ text names fails. fails config.relay names) (key_word words.Relay) table true h.relay)
+    subst (λ (a : Bool). AreRight table (relay_keys a)) (sym (anywhere_is table config.control_anywhere h.anywhere))
+    (also (right_text an_address (IsIpText config.relay) (λ text names fails. fails config.relay names) (key_word words.Relay) table true h.relay)
     (also (right_text a_peer (IsPeerText config.listen) (λ text names fails. fails config.listen names) (codes "listen") table true h.listen)
     (also (right_text a_peer (IsPeerText config.feed) (λ text names fails. fails config.feed names) (codes "feed") table true h.feed)
+    (also (right_boolean (codes "control_anywhere") table config.control_anywhere h.anywhere)
+    (also (right_guarded (codes "control") config.control_anywhere table config.control h.control)
     (also (right_text_or an_address4 (IsIpText (V4 config.query4)) (λ text names fails. fails config.query4 names) (key_word words.Query4) table _ h.query4)
     (also (right_text_or an_address6 (IsIpText (V6 config.query6)) (λ text names fails. fails config.query6 names) (key_word words.Query6) table _ h.query6)
     (also (number Robustness) (also (number QuerySeconds) (also (number ResponseTenths) (also (number Endpoints) (also (number Groups) (also (number Sources) (also (number PacketLimit)
     (also (right_number (codes "rotate_seconds") rotate_range table config.rotate_seconds h.rotate)
     (also (number Secrets)
-    (also (right_number (codes "workers") workers_range table config.workers h.workers) tt))))))))))))))
+    (also (right_number (codes "workers") workers_range table config.workers h.workers) tt)))))))))))))))))
 
 -- numbers that fail together aren't lawful
 more_than : (a b : ℕ) → a ≤ b → b < a → ⊥
@@ -110,8 +126,8 @@ same_range range key least most default = λ i. record { least = least i; most =
 
 -- where all values are right, but not together
 pub together_or : (table : Members) (config : RelayConfig) (key : NumberKey) (fault : ConfigFault) → HasValues table config → First (FailsTogether config) together_order key
-    → (fault ≡ faults.Range (number_word key)) ⊎ (fault ≡ faults.Memory) → IsValueFault relay_keys IsFaultTogether table fault ⊎ (fault ≡ faults.Memory)
+    → (fault ≡ faults.Range (number_word key)) ⊎ (fault ≡ faults.Memory) → IsValueFault (relay_keys (table_anywhere table)) IsFaultTogether table fault ⊎ (fault ≡ faults.Memory)
 together_or table config key fault values first (inl is) =
-    inl (by_else table relay_keys fault (IsFaultTogether table fault) (right_keys table config values)
+    inl (by_else table (relay_keys (table_anywhere table)) fault (IsFaultTogether table fault) (right_keys table config values)
     (record { config = config; values = values; key = key; first = first; is = is }))
 together_or table config key fault values first (inr memory) = inr memory

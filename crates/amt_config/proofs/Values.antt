@@ -3,8 +3,8 @@ use Rattle.std.proofs.Common.{◌≡◌, ℕ, Bool, false, List, Option, Some, N
 use Rattle.std.specs.Option.{option_and_then}
 use Rattle.relay_machine.specs.declared.number_key.NumberRange.{NumberRange}
 use Rattle.script_lines.specs.Form.{Form}
-use Rattle.toml.specs.Data.{Data, Members, as_integer, as_str, get_member}
-use Rattle.amt_config.{specs.{Arrays.{as_tables}, Key.{HasOptional, HasTables, HasText, HasTextOr, HasWholeNumber, IsOutside, IsRight, IsUnfit, a_whole, fault_of, optional, reason_of, read_at, some_tables, text_key}, declared.fault.KeyFault.TheVariants.{Range}}, proofs.Faults.{right_absent, right_by}}
+use Rattle.toml.specs.Data.{Data, Members, as_bool, as_integer, as_str, get_member}
+use Rattle.amt_config.{specs.{Arrays.{as_tables}, Key.{HasBoolean, HasOptional, HasTables, HasText, HasTextOr, HasWholeNumber, IsOutside, IsRight, IsUnfit, a_boolean, a_whole, fault_of, optional, reason_of, read_at, some_tables, text_key}, declared.fault.KeyFault.TheVariants.{Kind, Range}}, proofs.Faults.{right_absent, right_by}}
 
 -- what is read is one thing, and nothing is read where there is nothing
 pub one_read : {X : Type 0} (r : Option X) (one other : X) → r ≡ Some one → r ≡ Some other → one ≡ other
@@ -38,6 +38,12 @@ same_number word range table one other (inl h) (inr k) = absurd (none_read as_in
 same_number word range table one other (inr h) (inl k) = absurd (none_read as_integer (get_member word table) (pos one) h.0 k.0)
 same_number word range table one other (inr h) (inr k) = let same : pos one ≡ pos other = one_read (read_at as_integer word table) (pos one) (pos other) h.0 k.0 in cc
 
+pub same_boolean : (word : List ℕ) (table : Members) (one other : Bool) → HasBoolean word table one → HasBoolean word table other → one ≡ other
+same_boolean word table one other (inl h) (inl k) = h.1 ∙ sym k.1
+same_boolean word table one other (inl h) (inr k) = absurd (none_read as_bool (get_member word table) other k h.0)
+same_boolean word table one other (inr h) (inl k) = absurd (none_read as_bool (get_member word table) one h k.0)
+same_boolean word table one other (inr h) (inr k) = one_read (read_at as_bool word table) one other h k
+
 pub same_tables : (word : List ℕ) (table : Members) (one other : List Members) → HasTables word table one → HasTables word table other → one ≡ other
 same_tables word table one other (inl h) (inl k) = h.1 ∙ sym k.1
 same_tables word table one other (inl h) (inr k) = absurd (none_read as_tables (get_member word table) other k h.0)
@@ -58,7 +64,11 @@ pub right_optional : {V : Type 0} (form : Form) (Names : V → List ℕ → Type
 right_optional form Names fits word table None none = right_absent (text_key word false form) table refl none
 right_optional form Names fits word table (Some value) there = right_text form (Names value) (fits value) word table false there
 
--- the same with a number in its range, and with tables
+-- the same with a boolean, with a number in its range, and with tables
+pub right_boolean : (word : List ℕ) (table : Members) (flag : Bool) → HasBoolean word table flag → IsRight table (optional word a_boolean)
+right_boolean word table flag (inl absent) = right_absent (optional word a_boolean) table refl absent.0
+right_boolean word table flag (inr there) = right_by as_bool (λ flag. ⊥) Kind (optional word a_boolean) table (λ value fault h. h) flag there (λ h. h)
+
 pub right_number : (word : List ℕ) (range : NumberRange) (table : Members) (number : ℕ) → HasWholeNumber word range table number → IsRight table (optional word (a_whole range))
 right_number word range table number (inl absent) = right_absent (optional word (a_whole range)) table refl absent.0
 right_number word range table number (inr there) =

@@ -65,6 +65,7 @@ in_join (faults.Missing key) = faults.Missing (codes "join")
 in_join (faults.Kind key) = faults.Kind (codes "join")
 in_join (faults.Address key) = faults.Address (codes "join")
 in_join (faults.Range key) = faults.Range (codes "join")
+in_join (faults.Loopback key) = faults.Loopback (codes "join")
 in_join fault = fault
 
 -- the first fault of a join's own table

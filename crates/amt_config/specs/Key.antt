@@ -3,12 +3,15 @@ use Rattle.std.specs.{Prelude.{◌≡◌, ◌⊎◌, ℕ, Bool, true, false, Lis
 use Rattle.relay_machine.specs.declared.number_key.NumberRange.{NumberRange}
 use Rattle.script_lines.specs.{declared.reason.Reason.{Reason}, Form.{Fails as FailsAsForm, Form, a_family, a_group, a_mode, a_name, a_peer}, Shape.{SomeFails}}
 use Rattle.script_lines.specs.declared.reason.Reason.TheVariants as reasons
-use Rattle.toml.specs.Data.{Data, Members, as_integer, as_str, get_member}
-use Rattle.amt_config.specs.{Arrays.{as_tables, as_texts}, declared.fault.KeyFault.{KeyFault, TheVariants.{Missing, Kind, Address, Range}}}
+use Rattle.toml.specs.Data.{Data, Members, as_bool, as_integer, as_str, get_member}
+use Rattle.amt_config.specs.{Arrays.{as_tables, as_texts}, Loopback.{IsAwayText}, declared.fault.KeyFault.{KeyFault, TheVariants.{Missing, Kind, Address, Range, Loopback}}}
 
--- what a key wants: a text of a form, a whole number of a range, an array of texts, or one of tables
+-- what a key wants: a text of a form, a peer that is on the loopback unless it may be anywhere, a boolean,
+-- a whole number of a range, an array of texts, or one of tables
 pub data Want : Type 0 where
   a_text : Form → Want
+  a_guarded_peer : Bool → Want
+  a_boolean : Want
   a_whole : NumberRange → Want
   some_texts : Form → Want
   some_tables : Want
@@ -61,9 +64,16 @@ abbrev pub RefusesAs : {X : Type 0} → Option X → (X → Type 0) → KeyFault
 RefusesAs None Unfit cause fault = fault ≡ Kind
 RefusesAs (Some one) Unfit cause fault = Unfit one × (fault ≡ cause)
 
+-- a value of another type, a text that is no peer, or one of a peer that isn't where it may be
+abbrev pub RefusesPeer : Bool → Option (List ℕ) → KeyFault → Type 0
+RefusesPeer anywhere text fault =
+    RefusesAs text (IsUnfit a_peer) Address fault ⊎ RefusesAs text (IsAwayText anywhere) Loopback fault
+
 -- a value that a key of this want doesn't take, and why
 abbrev pub Refuses : Want → Data → KeyFault → Type 0
 Refuses (a_text form) value = RefusesAs (as_str value) (IsUnfit form) (fault_of (reason_of form))
+Refuses (a_guarded_peer anywhere) value = RefusesPeer anywhere (as_str value)
+Refuses a_boolean value = RefusesAs (as_bool value) (λ flag. ⊥) Kind
 Refuses (a_whole range) value = RefusesAs (as_integer value) (IsOutside range) Range
 Refuses (some_texts form) value = RefusesAs (as_texts value) (IsSomeUnfit form) (fault_of (reason_of form))
 Refuses some_tables value = RefusesAs (as_tables value) (λ tables. ⊥) Range
@@ -96,6 +106,11 @@ HasTextOr word table Names Default = ((get_member word table ≡ None) × Defaul
 abbrev pub HasOptional : {V : Type 0} → List ℕ → Members → (V → List ℕ → Type 0) → Option V → Type 0
 HasOptional word table Names None = get_member word table ≡ None
 HasOptional word table Names (Some value) = HasText word table (Names value)
+
+-- the value of the key is the boolean; false where the key isn't there
+abbrev pub HasBoolean : List ℕ → Members → Bool → Type 0
+HasBoolean word table flag =
+    ((get_member word table ≡ None) × (flag ≡ false)) ⊎ (read_at as_bool word table ≡ Some flag)
 
 -- the value of the key is the number, which is in the range; the default where the key isn't there
 abbrev pub HasWholeNumber : List ℕ → NumberRange → Members → ℕ → Type 0

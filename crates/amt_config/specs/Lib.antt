@@ -3,6 +3,7 @@ pub mod FileKey
 pub mod Gateway
 pub mod Join
 pub mod Key
+pub mod Loopback
 pub mod Reading
 pub mod Relay
 pub mod Table

@@ -1,12 +1,12 @@
 -- The settings file of a relay.
-use Rattle.std.specs.Prelude.{◌≡◌, ◌*◌, ◌<◌, ℕ, List, [], ◌∷◌, codes}
+use Rattle.std.specs.{Prelude.{◌≡◌, ◌*◌, ◌<◌, ℕ, Bool, false, List, [], ◌∷◌, codes}, Option.{unwrap_or}}
 use Rattle.amt_values.specs.{declared.address.Ip.TheVariants.{V4, V6}, Text.{IsIpText, IsPeerText}, Conditions.{First}}
 use Rattle.relay_machine.specs.{declared.{number_key.{NumberKey.{NumberKey, TheVariants.{Robustness, QuerySeconds, ResponseTenths, Secrets, Endpoints, Groups, Sources, PacketLimit}}, NumberRange.{NumberRange}}, settings.Settings.{Settings}}, Settings.{AreLawfulSettings, HasCode, HasMldCode, default_settings, number_at, number_row}}
 use Rattle.script_lines.specs.Form.{a_peer, an_address, an_address4, an_address6}
 use Rattle.amt_script.specs.declared.kind.Key.TheVariants as words
 use Rattle.amt_script.specs.Row.{key_word, number_word}
-use Rattle.toml.specs.Data.{Members}
-use Rattle.amt_config.specs.{declared.{config.RelayConfig.{RelayConfig}, fault.ConfigFault.{ConfigFault}}, Key.{HasWholeNumber, HasText, HasTextOr, Key, a_text, a_whole, optional, required}, Table.{AreKnown, IsFirstFaultOfFile, IsFile, IsFirstFault, key_words}}
+use Rattle.toml.specs.Data.{Members, as_bool}
+use Rattle.amt_config.specs.{declared.{config.RelayConfig.{RelayConfig}, fault.ConfigFault.{ConfigFault}}, Key.{HasBoolean, HasOptional, HasText, HasTextOr, HasWholeNumber, Key, a_boolean, a_guarded_peer, a_text, a_whole, optional, read_at, required}, Loopback.{IsGuardedText}, Table.{AreKnown, IsFirstFaultOfFile, IsFile, IsFirstFault, key_words}}
 use Rattle.amt_config.specs.declared.fault.ConfigFault.TheVariants as faults
 
 -- the row of one of the relay's numbers
@@ -25,12 +25,14 @@ abbrev pub number_key : NumberKey → Key
 number_key key = optional (number_word key) (a_whole (range_of key))
 
 -- the keys of a relay's file, in the order in which their faults are told; those that a script sets too
--- have the same words
-abbrev pub relay_keys : List Key
-relay_keys =
+-- have the same words. A control socket is on the loopback unless it may be anywhere
+abbrev pub relay_keys : Bool → List Key
+relay_keys anywhere =
     required (key_word words.Relay) (a_text an_address)
     ∷ required (codes "listen") (a_text a_peer)
     ∷ required (codes "feed") (a_text a_peer)
+    ∷ optional (codes "control_anywhere") a_boolean
+    ∷ optional (codes "control") (a_guarded_peer anywhere)
     ∷ optional (key_word words.Query4) (a_text an_address4)
     ∷ optional (key_word words.Query6) (a_text an_address6)
     ∷ number_key Robustness
@@ -44,6 +46,10 @@ relay_keys =
     ∷ number_key Secrets
     ∷ optional (codes "workers") (a_whole workers_range)
     ∷ []
+
+-- whether the table says that a control socket may be anywhere
+abbrev pub table_anywhere : Members → Bool
+table_anywhere table = unwrap_or (read_at as_bool (codes "control_anywhere") table) false
 
 -- the settings of the relay itself
 abbrev pub settings_of : RelayConfig → Settings
@@ -64,6 +70,8 @@ pub record HasValues (table : Members) (config : RelayConfig) : Type 0 where
   pub relay : HasText (key_word words.Relay) table (IsIpText config.relay)
   pub listen : HasText (codes "listen") table (IsPeerText config.listen)
   pub feed : HasText (codes "feed") table (IsPeerText config.feed)
+  pub anywhere : HasBoolean (codes "control_anywhere") table config.control_anywhere
+  pub control : HasOptional (codes "control") table (IsGuardedText config.control_anywhere) config.control
   pub query4 : HasTextOr (key_word words.Query4) table (IsIpText (V4 config.query4)) (config.query4 ≡ (default_settings config.relay).query4)
   pub query6 : HasTextOr (key_word words.Query6) table (IsIpText (V6 config.query6)) (config.query6 ≡ (default_settings config.relay).query6)
   pub numbers : (key : NumberKey) → HasWholeNumber (number_word key) (range_of key) table (number_at (settings_of config) key)
@@ -72,7 +80,7 @@ pub record HasValues (table : Members) (config : RelayConfig) : Type 0 where
 
 -- the table is a relay's: its keys are known, its values are these, and together a relay may have them
 pub record RelayConfigOf (table : Members) (config : RelayConfig) : Type 0 where
-  pub known : AreKnown (key_words relay_keys) table
+  pub known : AreKnown (key_words (relay_keys false)) table
   pub values : HasValues table config
   pub lawful : AreLawfulSettings (settings_of config)
 
@@ -97,10 +105,14 @@ pub record IsFaultTogether (table : Members) (fault : ConfigFault) : Type 0 wher
   pub first : First (FailsTogether config) together_order key
   pub is : fault ≡ faults.Range (number_word key)
 
+-- the first fault of a relay's table
+abbrev pub IsRelayTableFault : Members → ConfigFault → Type 0
+IsRelayTableFault table fault = IsFirstFault (relay_keys (table_anywhere table)) IsFaultTogether table fault
+
 -- the octets are the file of a relay with this configuration
 abbrev pub IsRelayFile : RelayConfig → List ℕ → Type 0
 IsRelayFile config bytes = IsFile (λ table. RelayConfigOf table config) bytes
 
 -- this is the first fault of the octets
 abbrev pub IsRelayFault : ConfigFault → List ℕ → Type 0
-IsRelayFault fault bytes = IsFirstFaultOfFile (IsFirstFault relay_keys IsFaultTogether) fault bytes
+IsRelayFault fault bytes = IsFirstFaultOfFile IsRelayTableFault fault bytes

@@ -1,7 +1,7 @@
 -- The table of a settings file, and its first fault.
 use Rattle.std.specs.{Prelude.{◌≡◌, ◌≢◌, ◌⊎◌, ℕ, Bool, true, List, [], ◌∷◌, map, IsSome, Some, IsUtf8}, Cmp.Lexicographic.{slice_cmp}, List.{list_any}, Ordering.{nat_cmp}, Str.{bytes_eq}, declared.cmp.Ordering.TheVariants.{Less}}
 use Rattle.toml.specs.{Data.{Members, get_member}, Parse.{parse_document}}
-use Rattle.amt_config.specs.{declared.fault.{ConfigFault.{ConfigFault}, KeyFault.{KeyFault, TheVariants.{Missing, Kind, Address, Range}}}, Key.{Fails, IsRight, Key}}
+use Rattle.amt_config.specs.{declared.fault.{ConfigFault.{ConfigFault}, KeyFault.{KeyFault, TheVariants.{Missing, Kind, Address, Range, Loopback}}}, Key.{Fails, IsRight, Key}}
 use Rattle.amt_config.specs.declared.fault.ConfigFault.TheVariants as faults
 
 -- the octets are text, which TOML reads as the table
@@ -42,6 +42,7 @@ told word Missing = faults.Missing word
 told word Kind = faults.Kind word
 told word Address = faults.Address word
 told word Range = faults.Range word
+told word Loopback = faults.Loopback word
 
 -- the fault of a key
 abbrev pub IsFaultOf : Members → Key → ConfigFault → Type 0

@@ -17,6 +17,10 @@ pub struct RelayConfig {
     pub listen: Peer,
     /// Where it takes multicast packets.
     pub feed: Peer,
+    /// Whether the relay may take control lines at any address, or on the loopback alone.
+    pub control_anywhere: bool,
+    /// Where the relay takes the lines by which it is asked.
+    pub control: Option<Peer>,
     /// The IPv4 source of General Queries.
     pub query4: u32,
     /// The IPv6 source of General Queries.

@@ -32,6 +32,9 @@ pub enum ConfigFault {
     /// stand beside the others.
     #[error("a value out of its range")]
     Range(Bytes),
+    /// A peer off the loopback, where it must be on it.
+    #[error("an address off the loopback")]
+    Loopback(Bytes),
     /// Out of memory for the table, the joins or their sockets, or for the key that is at fault.
     #[error("out of memory")]
     Memory,
@@ -48,6 +51,8 @@ pub enum KeyFault {
     Address,
     /// The number is out of its range, or the word isn't one of those allowed.
     Range,
+    /// The peer is off the loopback, where it must be on it.
+    Loopback,
 }
 
 /// The fault, with its key.
@@ -62,6 +67,7 @@ pub fn told(alloc: Global, key: FileKey, fault: KeyFault) -> ConfigFault
         KeyFault::Kind => ConfigFault::Kind(key),
         KeyFault::Address => ConfigFault::Address(key),
         KeyFault::Range => ConfigFault::Range(key),
+        KeyFault::Loopback => ConfigFault::Loopback(key),
     }
 }
 
@@ -78,6 +84,7 @@ pub fn in_join(alloc: Global, fault: ConfigFault) -> ConfigFault
         ConfigFault::Kind(_) => ConfigFault::Kind(key),
         ConfigFault::Address(_) => ConfigFault::Address(key),
         ConfigFault::Range(_) => ConfigFault::Range(key),
+        ConfigFault::Loopback(_) => ConfigFault::Loopback(key),
         fault => fault,
     }
 }

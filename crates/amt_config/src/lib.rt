@@ -9,11 +9,13 @@
 mod arrays;
 mod config;
 mod fault;
+mod flags;
 mod forms;
 mod gateway;
 mod join;
 mod joins;
 mod key;
+mod loopback;
 mod numbers;
 mod relay;
 mod table;

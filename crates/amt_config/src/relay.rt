@@ -1,19 +1,22 @@
 //! The settings file of a relay.
 
-ghost use Rattle.std.specs.Prelude.{◌≡◌, ◌≤◌, ◌<◌, ◌*◌, ◌⊎◌, IfOk, IfErr, IfNone, IfSome, IsTrue, IsFalse, OnOk, Ok, Err};
+ghost use Rattle.std.specs.Prelude.{◌≡◌, codes, ◌≤◌, ◌<◌, ◌*◌, ◌⊎◌, IfOk, IfErr, IfNone, IfSome, IsTrue, IsFalse, OnOk, Ok, Err};
 ghost use Rattle.amt_values.specs.Conditions.{First};
 ghost use Rattle.relay_machine.specs.{declared.number_key.NumberKey.{NumberKey as AnyNumber, TheVariants.{Endpoints, QuerySeconds, ResponseTenths}}, Settings.{AreLawfulSettings, IsInKeyRange, number_at as number_in}};
 ghost use Rattle.amt_script.specs.Row.{number_word};
 ghost use Rattle.toml.specs.View.{table_view};
-ghost use Rattle.amt_config.specs.{declared.{config.RelayConfig.{RelayConfig as Config}, fault.ConfigFault.{ConfigFault as Fault}}, Key.{HasWholeNumber, IsRight}, Reading.{MayFail, MayFailFirst}, Relay.{FailsTogether, HasValues, IsFaultTogether, IsRelayFault, IsRelayFile, RelayConfigOf, number_key, range_of, relay_keys, settings_of, together_order}, Table.{AreKnown, IsValueFault}, Words.{words_in}};
+ghost use Rattle.amt_config.specs.{declared.{config.RelayConfig.{RelayConfig as Config}, fault.ConfigFault.{ConfigFault as Fault}}, Key.{HasBoolean, HasOptional, HasWholeNumber, IsRight, a_guarded_peer, optional}, Loopback.{IsGuardedText}, Reading.{MayFail, MayFailFirst}, Relay.{FailsTogether, HasValues, IsFaultTogether, IsRelayFault, IsRelayFile, RelayConfigOf, number_key, range_of, relay_keys, settings_of, table_anywhere, together_order}, Table.{AreKnown, IsValueFault}, Words.{words_in}};
 
 use crate::config::RelayConfig;
 use crate::fault::{ConfigFault, KeyFault, told};
+use crate::flags::flag_at;
 use crate::forms::{Address, Address4, Address6, Place};
 use crate::key::FileKey;
+use crate::loopback::guarded_at;
 use crate::numbers::number_at;
 use crate::table::{TableKind, check_keys, read_table};
 use crate::texts::{required, value_or};
+use amt_values::Peer;
 use relay_machine::{NumberKey, NumberRange, SOURCE_LIMIT, Settings, has_code};
 use std::alloc::Global;
 use toml::Table;
@@ -38,19 +41,33 @@ fn number_of(alloc: Global, table: &Table, key: NumberKey) -> Result<u32, Config
     number_at(alloc, table, FileKey::Number(key), key.range())
 }
 
+// The peer of the control socket, if there is one, by what the table says of where it may be.
+fn control_at(alloc: Global, table: &Table, anywhere: bool) -> Result<Option<Peer>, ConfigFault>
+    requires { HasBoolean (codes "control_anywhere") (table_view table.now) anywhere }
+    ensures found { IfOk result (HasOptional (codes "control") (table_view table.now) (IsGuardedText anywhere)) }
+    ensures right { OnOk result (IsRight (table_view table.now) (optional (codes "control") (a_guarded_peer (table_anywhere (table_view table.now))))) }
+    ensures fault { IfErr result (MayFail (table_view table.now) (optional (codes "control") (a_guarded_peer (table_anywhere (table_view table.now))))) }
+{
+    guarded_at(alloc, table, FileKey::Control, anywhere)
+}
+
 // The values of all keys, each of which is one that its key wants.
 fn read_values(alloc: Global, table: &Table) -> Result<RelayConfig, ConfigFault>
     ensures found { IfOk result (HasValues (table_view table.now)) }
-    ensures fault { IfErr result (MayFailFirst relay_keys (table_view table.now) ⊥) }
+    ensures fault { IfErr result (MayFailFirst (relay_keys (table_anywhere (table_view table.now))) (table_view table.now) ⊥) }
 {
     let relay = required(alloc, table, FileKey::Relay, &Address)?;
     let listen = required(alloc, table, FileKey::Listen, &Place)?;
     let feed = required(alloc, table, FileKey::Feed, &Place)?;
+    let control_anywhere = flag_at(alloc, table, FileKey::ControlAnywhere)?;
+    let control = control_at(alloc, table, control_anywhere)?;
     let defaults = Settings::of_relay(relay);
     Ok(RelayConfig {
         relay,
         listen,
         feed,
+        control_anywhere,
+        control,
         query4: value_or(alloc, table, FileKey::Query4, &Address4, defaults.query4)?,
         query6: value_or(alloc, table, FileKey::Query6, &Address6, defaults.query6)?,
         robustness: number_of(alloc, table, NumberKey::Robustness)? as u8,
@@ -98,7 +115,7 @@ fn fault_together(config: &RelayConfig) -> Option<NumberKey>
 fn read_config(alloc: Global, table: &Table) -> Result<RelayConfig, ConfigFault>
     requires { AreKnown (words_in TableKind.Relay) (table_view table.now) }
     ensures found { IfOk result (RelayConfigOf (table_view table.now)) }
-    ensures fault { IfErr result (λ fault. IsValueFault relay_keys IsFaultTogether (table_view table.now) fault
+    ensures fault { IfErr result (λ fault. IsValueFault (relay_keys (table_anywhere (table_view table.now))) IsFaultTogether (table_view table.now) fault
         ⊎ (fault ≡ ConfigFault.Memory)) }
 {
     let config = match read_values(alloc, table) {

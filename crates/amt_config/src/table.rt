@@ -38,7 +38,8 @@ fn is_relay_key(name: &str) -> bool
     ensures { result ≡ is_among (words_in TableKind.Relay) name.now }
 {
     match name {
-        "relay" | "listen" | "feed" | "query4" | "query6" => true,
+        "relay" | "listen" | "feed" | "control_anywhere" | "control" => true,
+        "query4" | "query6" => true,
         "robustness" | "query_seconds" | "response_tenths" => true,
         "endpoints" | "groups" | "sources" | "packet_limit" => true,
         "rotate_seconds" | "secrets" | "workers" => true,

@@ -1,10 +1,10 @@
 use Rattle.toml.specs.View.{table_view}
-use Rattle.amt_config.{specs.Relay.{IsFaultTogether, relay_keys}, proofs.{Faults.{no_else, settled}, RelayLaws.{together_or}}}
+use Rattle.amt_config.{specs.Relay.{IsFaultTogether, relay_keys, table_anywhere}, proofs.{Faults.{no_else, settled}, RelayLaws.{together_or}}}
 use Rattle.amt_config.proofs.relay.read_config.Goals as goal
 
 pub returns-in-Err-clause-fault : goal.returns-in-Err-clause-fault
 returns-in-Err-clause-fault c =
-    settled (table_view c.args.table.now) c.in-Err.fault relay_keys _ (IsFaultTogether (table_view c.args.table.now) c.in-Err.fault) no_else c.in-Err.ensures.fault
+    settled (table_view c.args.table.now) c.in-Err.fault (relay_keys (table_anywhere (table_view c.args.table.now))) _ (IsFaultTogether (table_view c.args.table.now) c.in-Err.fault) no_else c.in-Err.ensures.fault
 
 pub returns-in-Some-clause-fault : goal.returns-in-Some-clause-fault
 returns-in-Some-clause-fault c =
