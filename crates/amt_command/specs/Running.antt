@@ -31,7 +31,7 @@ relay_reporting = record { end_of = λ report. report.end; text_of = relay_texts
 abbrev pub gateway_reporting : Reporting GatewayServed
 gateway_reporting = record { end_of = λ report. report.end; text_of = gateway_texts.report_text }
 
-module _ {V L F C W O P T : Type 0} (told : Tells V L F C W O P T) where
+module _ {V L F C W O P K N T : Type 0} (told : Tells V L F C W O P K N T) where
   -- `relay` with so many turns at most, and with these workers, where some are given
   abbrev pub relay_service : ℕ → Option ℕ → Service V RelayConfig ServeReport
   relay_service turns workers = record {
@@ -50,7 +50,7 @@ module _ {V L F C W O P T : Type 0} (told : Tells V L F C W O P T) where
     reporting = gateway_reporting;
   }
 
-module _ {G V L F C W O P T : Type 0} (kept : FilesTell G) (told : Tells V L F C W O P T) (file : List ℕ) (turns : ℕ) where
+module _ {G V L F C W O P K N T : Type 0} (kept : FilesTell G) (told : Tells V L F C W O P K N T) (file : List ℕ) (turns : ℕ) where
   -- What `relay` does with its arguments, as its status and its line show.
   abbrev pub Relays : Option ℕ → G → G → V → V → {A : Type 0} → (A → Option (List ℕ)) → A → A → ℕ → List ℕ → Type 0
   Relays workers files files' live live' written out out' status line =
@@ -61,7 +61,7 @@ module _ {G V L F C W O P T : Type 0} (kept : FilesTell G) (told : Tells V L F C
   Gateways files files' live live' written out out' status line =
       Serves kept told.live (gateway_service told turns) file files files' live live' written out out' status line
 
-module _ {G V L F C W O P T : Type 0} (kept : FilesTell G) (told : Tells V L F C W O P T) (files files' : G) (live live' : V) where
+module _ {G V L F C W O P K N T : Type 0} (kept : FilesTell G) (told : Tells V L F C W O P K N T) (files files' : G) (live live' : V) where
   -- What a command does with files and devices, as its status and its line show: `relay` and `gateway` serve, and
   -- no other touches them.
   abbrev pub ServesFor : Command → {A : Type 0} → (A → Option (List ℕ)) → A → A → ℕ → List ℕ → Type 0

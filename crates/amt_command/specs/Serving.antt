@@ -71,7 +71,7 @@ pub record Service (V S R : Type 0) : Type 1 where
   pub Runs : Option (List ℕ) → V → V → R → Type 0
   pub reporting : Reporting R
 
-module _ {G V L F C W O P T S R : Type 0} (kept : FilesTell G) (told : LiveTells V L F C W O P T) (service : Service V S R) (file : List ℕ) (files files' : G) (live live' : V) where
+module _ {G V L F C W O P K N T S R : Type 0} (kept : FilesTell G) (told : LiveTells V L F C W O P K N T) (service : Service V S R) (file : List ℕ) (files files' : G) (live live' : V) where
   -- What is known of the answer of a run by the settings of this file: the run behind a report, or why there was
   -- none, and what was asked of files and devices.
   pub record ComesTo (answer : Result R ServingFault) : Type 0 where

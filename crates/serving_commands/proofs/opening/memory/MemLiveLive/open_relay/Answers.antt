@@ -19,7 +19,7 @@ returns-in-Err-clause-only g c = λ is.
     (elim (c.in-Err.ensures.only (same_fault c.in-Err.fault Failed is)) [
       | inl listed ↦ inl listed
       | inr unfit ↦ inr (subst (λ sets. fits_relay c.args.slots (is_some c.args.control.now) sets ≡ false) c.as_slice.ensures.value
-        (subst (λ asked. fits_relay c.args.slots asked c.as_slice.result.now ≡ false) c.is_some-asked.ensures (sym c.fits_relay-fits.ensures ∙ unfit)))
+          (subst (λ asked. fits_relay c.args.slots asked c.as_slice.result.now ≡ false) c.is_some-asked.ensures (sym c.fits_relay-fits.ensures ∙ unfit)))
     ])
 
 pub returns-in-Err-clause-ok : goal.returns-in-Err-clause-ok
