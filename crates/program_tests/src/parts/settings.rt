@@ -65,36 +65,117 @@ const GATEWAYS: [(&str, &str, &str); 5] = [
 // `Debug` writes it. A key is written as its octets.
 const CONTROLS: [(&str, &str); 31] = [
     ("", "None"),
-    ("control = \"127.0.0.1:9\"", "Some(Peer { ip: V4(2130706433), port: 9 })"),
-    ("control = \"127.0.0.0:9\"", "Some(Peer { ip: V4(2130706432), port: 9 })"),
-    ("control = \"127.255.0.1:9\"", "Some(Peer { ip: V4(2147418113), port: 9 })"),
-    ("control = \"127.255.255.255:9\"", "Some(Peer { ip: V4(2147483647), port: 9 })"),
-    ("control = \"126.255.255.255:9\"", "Loopback(Items { items: [99, 111, 110, 116, 114, 111, 108] })"),
-    ("control = \"128.0.0.1:9\"", "Loopback(Items { items: [99, 111, 110, 116, 114, 111, 108] })"),
-    ("control = \"0.0.0.0:9\"", "Loopback(Items { items: [99, 111, 110, 116, 114, 111, 108] })"),
+    (
+        "control = \"127.0.0.1:9\"",
+        "Some(Peer { ip: V4(2130706433), port: 9 })",
+    ),
+    (
+        "control = \"127.0.0.0:9\"",
+        "Some(Peer { ip: V4(2130706432), port: 9 })",
+    ),
+    (
+        "control = \"127.255.0.1:9\"",
+        "Some(Peer { ip: V4(2147418113), port: 9 })",
+    ),
+    (
+        "control = \"127.255.255.255:9\"",
+        "Some(Peer { ip: V4(2147483647), port: 9 })",
+    ),
+    (
+        "control = \"126.255.255.255:9\"",
+        "Loopback(Items { items: [99, 111, 110, 116, 114, 111, 108] })",
+    ),
+    (
+        "control = \"128.0.0.1:9\"",
+        "Loopback(Items { items: [99, 111, 110, 116, 114, 111, 108] })",
+    ),
+    (
+        "control = \"0.0.0.0:9\"",
+        "Loopback(Items { items: [99, 111, 110, 116, 114, 111, 108] })",
+    ),
     ("control = \"[::1]:9\"", "Some(Peer { ip: V6(1), port: 9 })"),
-    ("control = \"[::2]:9\"", "Loopback(Items { items: [99, 111, 110, 116, 114, 111, 108] })"),
-    ("control = \"[::]:9\"", "Loopback(Items { items: [99, 111, 110, 116, 114, 111, 108] })"),
-    ("control = \"[::ffff:7f00:1]:9\"", "Loopback(Items { items: [99, 111, 110, 116, 114, 111, 108] })"),
-    ("control = \"[::ffff:127.0.0.1]:9\"", "Address(Items { items: [99, 111, 110, 116, 114, 111, 108] })"),
-    ("control = \"127.0.0.1\"", "Address(Items { items: [99, 111, 110, 116, 114, 111, 108] })"),
-    ("control = 9", "Kind(Items { items: [99, 111, 110, 116, 114, 111, 108] })"),
+    (
+        "control = \"[::2]:9\"",
+        "Loopback(Items { items: [99, 111, 110, 116, 114, 111, 108] })",
+    ),
+    (
+        "control = \"[::]:9\"",
+        "Loopback(Items { items: [99, 111, 110, 116, 114, 111, 108] })",
+    ),
+    (
+        "control = \"[::ffff:7f00:1]:9\"",
+        "Loopback(Items { items: [99, 111, 110, 116, 114, 111, 108] })",
+    ),
+    (
+        "control = \"[::ffff:127.0.0.1]:9\"",
+        "Address(Items { items: [99, 111, 110, 116, 114, 111, 108] })",
+    ),
+    (
+        "control = \"127.0.0.1\"",
+        "Address(Items { items: [99, 111, 110, 116, 114, 111, 108] })",
+    ),
+    (
+        "control = 9",
+        "Kind(Items { items: [99, 111, 110, 116, 114, 111, 108] })",
+    ),
     ("control_anywhere = false", "None"),
-    ("control_anywhere = false\ncontrol = \"128.0.0.1:9\"", "Loopback(Items { items: [99, 111, 110, 116, 114, 111, 108] })"),
-    ("control_anywhere = false\ncontrol = \"127.0.0.1:9\"", "Some(Peer { ip: V4(2130706433), port: 9 })"),
+    (
+        "control_anywhere = false\ncontrol = \"128.0.0.1:9\"",
+        "Loopback(Items { items: [99, 111, 110, 116, 114, 111, 108] })",
+    ),
+    (
+        "control_anywhere = false\ncontrol = \"127.0.0.1:9\"",
+        "Some(Peer { ip: V4(2130706433), port: 9 })",
+    ),
     ("control_anywhere = true", "None"),
-    ("control_anywhere = true\ncontrol = \"127.0.0.1:9\"", "Some(Peer { ip: V4(2130706433), port: 9 })"),
-    ("control_anywhere = true\ncontrol = \"127.255.0.1:9\"", "Some(Peer { ip: V4(2147418113), port: 9 })"),
-    ("control_anywhere = true\ncontrol = \"128.0.0.1:9\"", "Some(Peer { ip: V4(2147483649), port: 9 })"),
-    ("control_anywhere = true\ncontrol = \"[::1]:9\"", "Some(Peer { ip: V6(1), port: 9 })"),
-    ("control_anywhere = true\ncontrol = \"[::2]:9\"", "Some(Peer { ip: V6(2), port: 9 })"),
-    ("control_anywhere = true\ncontrol = \"[::ffff:7f00:1]:9\"", "Some(Peer { ip: V6(281472812449793), port: 9 })"),
-    ("control_anywhere = true\ncontrol = \"[::ffff:127.0.0.1]:9\"", "Address(Items { items: [99, 111, 110, 116, 114, 111, 108] })"),
-    ("control_anywhere = true\ncontrol = 9", "Kind(Items { items: [99, 111, 110, 116, 114, 111, 108] })"),
-    ("control_anywhere = 1", "Kind(Items { items: [99, 111, 110, 116, 114, 111, 108, 95, 97, 110, 121, 119, 104, 101, 114, 101] })"),
-    ("control_anywhere = \"true\"", "Kind(Items { items: [99, 111, 110, 116, 114, 111, 108, 95, 97, 110, 121, 119, 104, 101, 114, 101] })"),
-    ("control_anywhere = 1\ncontrol = \"128.0.0.1:9\"", "Kind(Items { items: [99, 111, 110, 116, 114, 111, 108, 95, 97, 110, 121, 119, 104, 101, 114, 101] })"),
-    ("control = \"128.0.0.1:9\"\nworkers = 65", "Loopback(Items { items: [99, 111, 110, 116, 114, 111, 108] })"),
+    (
+        "control_anywhere = true\ncontrol = \"127.0.0.1:9\"",
+        "Some(Peer { ip: V4(2130706433), port: 9 })",
+    ),
+    (
+        "control_anywhere = true\ncontrol = \"127.255.0.1:9\"",
+        "Some(Peer { ip: V4(2147418113), port: 9 })",
+    ),
+    (
+        "control_anywhere = true\ncontrol = \"128.0.0.1:9\"",
+        "Some(Peer { ip: V4(2147483649), port: 9 })",
+    ),
+    (
+        "control_anywhere = true\ncontrol = \"[::1]:9\"",
+        "Some(Peer { ip: V6(1), port: 9 })",
+    ),
+    (
+        "control_anywhere = true\ncontrol = \"[::2]:9\"",
+        "Some(Peer { ip: V6(2), port: 9 })",
+    ),
+    (
+        "control_anywhere = true\ncontrol = \"[::ffff:7f00:1]:9\"",
+        "Some(Peer { ip: V6(281472812449793), port: 9 })",
+    ),
+    (
+        "control_anywhere = true\ncontrol = \"[::ffff:127.0.0.1]:9\"",
+        "Address(Items { items: [99, 111, 110, 116, 114, 111, 108] })",
+    ),
+    (
+        "control_anywhere = true\ncontrol = 9",
+        "Kind(Items { items: [99, 111, 110, 116, 114, 111, 108] })",
+    ),
+    (
+        "control_anywhere = 1",
+        "Kind(Items { items: [99, 111, 110, 116, 114, 111, 108, 95, 97, 110, 121, 119, 104, 101, 114, 101] })",
+    ),
+    (
+        "control_anywhere = \"true\"",
+        "Kind(Items { items: [99, 111, 110, 116, 114, 111, 108, 95, 97, 110, 121, 119, 104, 101, 114, 101] })",
+    ),
+    (
+        "control_anywhere = 1\ncontrol = \"128.0.0.1:9\"",
+        "Kind(Items { items: [99, 111, 110, 116, 114, 111, 108, 95, 97, 110, 121, 119, 104, 101, 114, 101] })",
+    ),
+    (
+        "control = \"128.0.0.1:9\"\nworkers = 65",
+        "Loopback(Items { items: [99, 111, 110, 116, 114, 111, 108] })",
+    ),
 ];
 
 // Files that are at fault, and the derived text of each kind of fault, which no clause and no command has.
@@ -129,7 +210,9 @@ fn gateway_text(alloc: Global, file: &str) -> Option<String> {
 }
 
 fn control_text(alloc: Global, lines: &str) -> Option<String> {
-    let file = format!(in alloc; "relay = \"192.0.2.1\"\nlisten = \"127.0.0.1:2268\"\nfeed = \"127.0.0.1:9000\"\n{lines}").ok()?;
+    let file = format!(in alloc;
+        "relay = \"192.0.2.1\"\nlisten = \"127.0.0.1:2268\"\nfeed = \"127.0.0.1:9000\"\n{lines}"
+    ).ok()?;
     match relay_settings(alloc, file.as_bytes()) {
         Ok(config) => format!(in alloc; "{:?}", config.control).ok(),
         Err(fault) => format!(in alloc; "{fault:?}").ok(),
