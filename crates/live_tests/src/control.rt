@@ -21,6 +21,7 @@ const LINE: &[u8] = b"counts\n";
 const ANSWER: &[u8] = b"turns 3\n. 1\n";
 
 // Where a control socket is to be, who asks there, and where copies go.
+#[derive(Clone, Copy)]
 struct Ends<'a> {
     at: Peer,
     far: &'a FarEnd,

@@ -1,5 +1,5 @@
 -- A run of a relay on devices that are opened for it.
-use Rattle.std.specs.Prelude.{◌≡◌, ℕ, List, false, is_some, length, Option}
+use Rattle.std.specs.Prelude.{◌≡◌, ℕ, List, is_some, length, Option}
 use Rattle.amt_config.specs.{Relay.{settings_of}, declared.config.RelayConfig.{RelayConfig}}
 use Rattle.serving_commands.specs.{declared.opening.devices.{DeviceSet.TheVariants.{Relay as RelaySet}, RelayDevices.{RelayDevices}}, RelayLives.{links_out_seen, set_seen}, RelayOpenings.{opening_by, slots_of}, RelayPlans.{plan_by}, Kinds.{relay_file}, Lives.{Tells}, Openings.{IsLent}, Reading.{IsConfigured}}
 use Rattle.published_table.specs.declared.view.View.{View}
@@ -13,7 +13,7 @@ module _ {V L F C W O P K N T : Type 0} (told : Tells V L F C W O P K N T) where
     pub left : RelayDevices L F C W O P K N
     pub lent : IsLent told.live (opening_by config plan) (RelaySet opened) (RelaySet left) before after
     pub outs : length opened.outs ≡ slots_of plan
-    pub control : is_some opened.control ≡ false
+    pub control : is_some opened.control ≡ is_some config.control
     -- the run
     pub views : List View
     pub serves : Serves (settings_of config) plan (set_seen told opened) (set_seen told left)

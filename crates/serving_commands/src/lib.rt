@@ -21,8 +21,8 @@ pub use control::{Control, Copies, CopyCount};
 pub use fault::ServingFault;
 pub use kinds::FromSettings;
 pub use opening::{
-    CountedOut, DeviceSet, GatewayDevices, HostLive, Live, MemLive, OpenFault, Opening, RelayDevices,
-    SharedCopies, WorkerThreads,
+    CountedOut, DeviceSet, GatewayDevices, HostLive, Live, MemLive, OpenFault, Opening,
+    RelayDevices, SharedCopies, WorkerThreads,
 };
 pub use reading::read_settings;
 pub use report::report_head;

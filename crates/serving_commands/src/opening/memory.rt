@@ -35,7 +35,16 @@ impl<L, F, C, W, O, P, K, N> Model for MemLive<L, F, C, W, O, P, K, N> {
     ghost view = { λ live. record { sets = live.sets.items; asked = live.asked; returned = live.returned; calls = live.calls } };
 }
 
-impl<L: Drop, F: Drop, C: Drop, W: Drop, O: Drop, P: Drop, K: Drop, N: Drop> MemLive<L, F, C, W, O, P, K, N> {
+impl<L: Drop, F: Drop, C: Drop, W: Drop, O: Drop, P: Drop, K: Drop, N: Drop> MemLive<
+    L,
+    F,
+    C,
+    W,
+    O,
+    P,
+    K,
+    N,
+> {
     /// No opening fails while a set that fits it is to come.
     pub fn new(alloc: Global, sets: Vec<DeviceSet<L, F, C, W, O, P, K, N>>) -> Self
         ensures sets { result.sets ≡ sets.items }
@@ -48,7 +57,11 @@ impl<L: Drop, F: Drop, C: Drop, W: Drop, O: Drop, P: Drop, K: Drop, N: Drop> Mem
     }
 
     /// The openings of these numbers fail, counted from 1.
-    pub fn failing(alloc: Global, sets: Vec<DeviceSet<L, F, C, W, O, P, K, N>>, calls: Vec<u64>) -> Self
+    pub fn failing(
+        alloc: Global,
+        sets: Vec<DeviceSet<L, F, C, W, O, P, K, N>>,
+        calls: Vec<u64>,
+    ) -> Self
         ensures sets { result.sets ≡ sets.items }
         ensures asked { result.asked ≡ Some [] }
         ensures returned { result.returned.sets ≡ [] }
