@@ -15,7 +15,7 @@ count_more : {X : Type 0} (test : X → Bool) (xs : List X) (x : X) → count_by
 count_more {X} test xs x = sum_more (λ (one : X). one_if (test one)) xs x
 
 -- each event is answered once
-length-each_after : {E A : Type 0} (answer : List E → E → A) (before events : List E) → length (each_after answer before events) ≡ length events
+pub length-each_after : {E A : Type 0} (answer : List E → E → A) (before events : List E) → length (each_after answer before events) ≡ length events
 length-each_after answer before [] = refl
 length-each_after answer before (event ∷ rest) = let later = length-each_after answer (before ++ event ∷ []) rest in omega (arith, later)
 

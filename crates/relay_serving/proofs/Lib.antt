@@ -6,6 +6,7 @@ pub mod Ending
 pub mod Entering
 pub mod GivenOut
 pub mod Happenings
+pub mod OutcomeCounts
 pub mod Owed
 pub mod OwedLate
 pub mod Packets

@@ -6,6 +6,7 @@ pub mod Ending
 pub mod Events
 pub mod GivenOut
 pub mod Happenings
+pub mod OutcomeWords
 pub mod Plans
 pub mod Reports
 pub mod Runs

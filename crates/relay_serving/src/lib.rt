@@ -10,6 +10,7 @@
 
 mod counts;
 mod course;
+mod outcomes;
 mod plan;
 mod renewal;
 mod secret;
