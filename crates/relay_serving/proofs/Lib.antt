@@ -1,5 +1,6 @@
 pub mod AnswerSends
 pub mod Answering
+pub mod Askings
 pub mod Counting
 pub mod Drawing
 pub mod Ending

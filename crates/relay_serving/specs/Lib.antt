@@ -1,3 +1,6 @@
+pub mod Asked
+pub mod AskingServers
+pub mod Controls
 pub mod Counting
 pub mod Courses
 pub mod Devices
@@ -8,7 +11,9 @@ pub mod GivenOut
 pub mod Happenings
 pub mod OutcomeWords
 pub mod Plans
+pub mod Replies
 pub mod Reports
+pub mod Rounds
 pub mod Runs
 pub mod Sending
 pub mod Servers

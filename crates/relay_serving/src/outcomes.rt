@@ -1,12 +1,12 @@
 //! The words by which a running relay counts what its events came to.
-ghost use Rattle.std.specs.{Prelude.{◌≡◌, ◌≤◌, ◌<◌, ℕ, List, [], Some, IfOk, length, nat_lt}, List.{slice_get}};
+ghost use Rattle.std.specs.{Prelude.{◌≡◌, ◌≤◌, ◌<◌, ◌++◌, ℕ, List, [], Some, IfOk, OnOk, length, nat_lt}, List.{slice_get}};
 ghost use Rattle.relay_machine.specs.Packets.{by_head, head_to_copy};
 ghost use Rattle.inner_datagrams.specs.Head.{head_of};
-ghost use Rattle.control_lines.specs.Tally.{numbers_of};
+ghost use Rattle.control_lines.specs.Tally.{numbers_of, tally_text};
 ghost use Rattle.relay_serving.specs.OutcomeWords.{HasCounted, IsTallyOfFew, outcome_words, packet_word, word_of};
 
-use amt_values::forwardable;
-use control_lines::Tally;
+use amt_values::{Bytes, forwardable};
+use control_lines::{Tally, append_tally};
 use inner_datagrams::packet_head;
 use relay_machine::Outcome;
 use std::alloc::{AllocError, Global};
@@ -118,6 +118,13 @@ impl Outcomes {
         ensures { HasCounted (word_of outcome.now) self.old self.new }
     {
         self.count_at(place_of(outcome));
+    }
+
+    /// Puts a line for each word that came at the end.
+    pub(crate) fn append(&self, text: &mut Bytes) -> Result<(), AllocError>
+        ensures { OnOk result (text.new ≡ text.old ++ tally_text outcome_words self.now.tally) }
+    {
+        append_tally(text, &OUTCOME_WORDS, &self.tally)
     }
 
     /// Counts the outcome of a packet.

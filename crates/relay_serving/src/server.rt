@@ -15,11 +15,13 @@ use replication_workers::Dispatcher;
 use response_mac::Secret;
 use std::snapshot::Snapshot;
 
+mod asking;
 mod ending;
 mod entering;
 mod feeding;
 mod hearing;
 mod publishing;
+mod replying;
 mod starting;
 mod turning;
 
