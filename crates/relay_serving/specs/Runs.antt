@@ -54,7 +54,7 @@ GoOn rounds = list_any is_stopped rounds ≡ false
 -- all turns are done, or in the last round, and in none before, somebody asked that the run ends
 pub data HasDone (plan : ServePlan) (done : ℕ) (rounds : List Round) : Type 0 where
   all_turns : done ≡ plan.turns → GoOn rounds → HasDone plan done rounds
-  stopped : (earlier : List Round) (last : Round) → rounds ≡ earlier ++ last ∷ [] → GoOn earlier → is_stopped last ≡ true → done ≤ plan.turns
+  stopped : (earlier : List Round) (last : Round) → rounds ≡ earlier ++ last ∷ [] → GoOn earlier → is_stopped last ≡ true → 0 < done → done ≤ plan.turns
       → HasDone plan done rounds
 
 -- the run is done with its turns, or this one isn't whole

@@ -20,4 +20,4 @@ loop-preserved g c = record {
 }
 
 pub returns-clause-round : goal.returns-clause-round
-returns-clause-round g c = round_full _ _ _ _ _ _ _ c.loop.invariant.asking (omega (arith, c.loop-test.false, c.loop.auto.counter-end))
+returns-clause-round g c = round_full _ _ _ _ _ _ _ _ c.loop.invariant.asking (omega (arith, c.loop-test.false, c.loop.auto.counter-end))
