@@ -1,0 +1,26 @@
+-- How often each of some words was said.
+use Rattle.std.specs.{Prelude.{ℕ, ◌==◌, Bool, true, not, ◌&&◌, IsTrue, List, [], ◌∷◌, ◌++◌, map, codes, decimal, if◌then◌else◌}, List.{count_by, list_any}, Str.{bytes_eq}}
+
+-- how often each word was said
+abbrev pub numbers_of : List (List ℕ) → List (List ℕ) → List ℕ
+numbers_of words said = map (λ word. count_by (bytes_eq word) said) words
+
+-- no word is also at a later place
+abbrev pub are_apart : List (List ℕ) → Bool
+are_apart [] = true
+are_apart (word ∷ words) = not (list_any (bytes_eq word) words) && are_apart words
+
+-- no two places have the same word
+abbrev pub AreApart : List (List ℕ) → Type 0
+AreApart words = IsTrue (are_apart words)
+
+-- `= WORD N`, of a word that was said
+abbrev pub tally_line : List ℕ → ℕ → List ℕ
+tally_line word number =
+    if number == 0 then [] else codes "= " ++ (word ++ (codes " " ++ (decimal number ++ (10 ∷ []))))
+
+-- the lines of the words that were said, in order
+abbrev pub tally_text : List (List ℕ) → List ℕ → List ℕ
+tally_text [] numbers = []
+tally_text (word ∷ words) [] = []
+tally_text (word ∷ words) (number ∷ numbers) = tally_line word number ++ tally_text words numbers

@@ -1,0 +1,111 @@
+//! Askings and answers as they are printed.
+
+use crate::{Asking, Tally, answer_line, append_bad, append_tally, read_asking};
+use amt_ports::MemLink;
+use amt_values::{AMT_PORT, Bytes, Ip, Peer};
+use script_lines::Reason;
+use std::alloc::{AllocError, Global};
+use std::collections::VecDeque;
+use std::process::Abort;
+
+// 192.0.2.1:2268.
+const PEER: Peer = Peer {
+    ip: Ip::V4(0xc000_0201),
+    port: AMT_PORT,
+};
+
+// Lines, and what they are read as.
+const LINES: [(&[u8], Result<Asking, Reason>); 20] = [
+    (b"counts", Ok(Asking::Counts)),
+    (b"counts\n", Ok(Asking::Counts)),
+    (b"counts\r\n", Ok(Asking::Counts)),
+    (b"  show ", Ok(Asking::Show)),
+    (b"show  192.0.2.1:2268\n", Ok(Asking::ShowOf(PEER))),
+    (b"stop\n", Ok(Asking::Stop)),
+    (b"", Err(Reason::Word)),
+    (b" \r\n", Err(Reason::Word)),
+    (b"stop\r", Err(Reason::Word)),
+    (b"stop\n\n", Err(Reason::Word)),
+    (b"stop\r\r\n", Err(Reason::Word)),
+    (b"show\x07", Err(Reason::Word)),
+    (b"Counts", Err(Reason::Word)),
+    (b"open a b c", Err(Reason::Word)),
+    (b"counts 1", Err(Reason::Count)),
+    (b"stop stop\n", Err(Reason::Count)),
+    (b"show 192.0.2.1 2268", Err(Reason::Count)),
+    (b"show 192.0.2.1:2268 x", Err(Reason::Count)),
+    (b"show 192.0.2.1", Err(Reason::Peer)),
+    (b"show counts", Err(Reason::Peer)),
+];
+
+// How many lines of how many octets each, the last octet a line feed or not, and the lengths of the datagrams.
+const CUTS: [(usize, usize, u8, &[usize]); 6] = [
+    (0, 0, b'\n', &[4]),
+    (1, 1376, b'x', &[1380]),
+    (1, 1377, b'x', &[1376, 5]),
+    (1, 1377, b'\n', &[1376, 5]),
+    (13, 100, b'\n', &[1304]),
+    (30, 100, b'\n', &[1300, 1300, 404]),
+];
+
+fn check_lines(rt: &impl Abort) {
+    for (line, wanted) in LINES {
+        assert_eq!(rt; read_asking(line), wanted);
+    }
+}
+
+fn lines_of(alloc: Global, count: usize, length: usize, last: u8) -> Result<Bytes, AllocError> {
+    let mut text = Bytes::new(alloc);
+    for _ in 0..count {
+        for place in 1..length {
+            text.push(if place == 1 { b'=' } else { b'a' })?;
+        }
+        text.push(last)?;
+    }
+    Ok(text)
+}
+
+// The text that a link was sent, and the lengths of the datagrams.
+fn check_datagrams(rt: &impl Abort, link: &MemLink, wanted: &[usize]) {
+    assert_eq!(rt; link.tried().len(), wanted.len());
+    for (tried, length) in link.tried().iter().zip(wanted) {
+        assert_eq!(rt; tried.to, PEER);
+        assert_eq!(rt; tried.bytes.len(), *length);
+        assert!(rt; tried.sent);
+    }
+}
+
+fn check_cuts(rt: &impl Abort, alloc: Global) -> Result<(), AllocError> {
+    for (count, length, last, wanted) in CUTS {
+        let text = lines_of(alloc, count, length, last)?;
+        let mut link = MemLink::new(alloc, VecDeque::new(alloc));
+        answer_line(&mut link, &PEER, text)?;
+        check_datagrams(rt, &link, wanted);
+    }
+    Ok(())
+}
+
+// A tally of three words, of which the second wasn't said, and a line that is bad.
+fn check_text(rt: &impl Abort, alloc: Global) -> Result<(), AllocError> {
+    let words = ["granted", "badmac", "torn"];
+    let mut tally = Tally::new(alloc, 3)?;
+    tally.count(2);
+    tally.count(0);
+    tally.count(2);
+    let mut text = Bytes::new(alloc);
+    append_tally(&mut text, &words, &tally)?;
+    append_bad(&mut text, Reason::Peer)?;
+    assert_eq!(rt;
+        text.as_slice(),
+        b"= granted 1\n= torn 2\nbad peer\n".as_slice()
+    );
+    Ok(())
+}
+
+#[test]
+fn lines_ask_and_answers_are_cut(rt: HostRuntime) {
+    check_lines(&rt);
+    let alloc = rt.alloc();
+    assert!(rt; check_cuts(&rt, alloc).is_ok());
+    assert!(rt; check_text(&rt, alloc).is_ok());
+}
