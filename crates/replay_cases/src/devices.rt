@@ -9,7 +9,7 @@ use amt_ports::{ListedSpawner, MemClock, MemFeed, MemLink, MemOut, MemWords, Out
 use amt_values::{Ip, Moment, Peer};
 use arrivals::{feed_answers, link_answers};
 use replication_workers::Outs;
-use serving_commands::{DeviceSet, GatewayDevices, MemLive, RelayDevices, SharedCopies};
+use serving_commands::{DeviceSet, GatewayDevices, MemLive, RelayDevices};
 use starters::Starter;
 use std::alloc::{AllocError, Global};
 use std::sync::Wait;
@@ -19,22 +19,11 @@ use std::thread::Threads;
 pub type Spawner<'a, R> = ListedSpawner<&'a R, Starter<'a, R>>;
 
 /// Where the case's set of devices is opened.
-pub type Sets<'a, R> =
-    MemLive<MemLink, MemFeed, MemClock, MemWords, MemOut, Spawner<'a, R>, MemLink, SharedCopies>;
+pub type Sets<'a, R> = MemLive<MemLink, MemFeed, MemClock, MemWords, MemOut, Spawner<'a, R>>;
 
-pub type Set<'a, R> =
-    DeviceSet<MemLink, MemFeed, MemClock, MemWords, MemOut, Spawner<'a, R>, MemLink, SharedCopies>;
+pub type Set<'a, R> = DeviceSet<MemLink, MemFeed, MemClock, MemWords, MemOut, Spawner<'a, R>>;
 
-type OfRelay<'a, R> = RelayDevices<
-    MemLink,
-    MemFeed,
-    MemClock,
-    MemWords,
-    MemOut,
-    Spawner<'a, R>,
-    MemLink,
-    SharedCopies,
->;
+type OfRelay<'a, R> = RelayDevices<MemLink, MemFeed, MemClock, MemWords, MemOut, Spawner<'a, R>>;
 
 type OfGateway = GatewayDevices<MemLink, MemFeed, MemOut, MemClock, MemWords>;
 
@@ -185,8 +174,6 @@ fn relay_of<'a, R: Threads + Wait + 'static>(
         words: givers.words,
         outs,
         spawner,
-        // No case asks a relay.
-        control: None,
     })
 }
 

@@ -2,7 +2,6 @@
 
 use crate::devices::{Set, Sets, number_of};
 use amt_ports::{MemOut, Tried};
-use amt_values::Peer;
 use replication_workers::Outs;
 use serving_commands::{DeviceSet, Opening};
 use std::alloc::{AllocError, Global};
@@ -70,24 +69,13 @@ pub fn sends_text<R>(alloc: Global, live: &Sets<'_, R>) -> Result<String, AllocE
     Ok(text)
 }
 
-fn append_control(text: &mut String, control: &Option<Peer>) -> Result<(), AllocError> {
-    match control {
-        Some(peer) => write!(text, " control {peer}\n"),
-        None => text.push_str("\n"),
-    }
-}
-
 fn append_opening(text: &mut String, opening: &Opening) -> Result<(), AllocError> {
     match opening {
         Opening::Relay {
             listen,
             feed,
-            control,
             slots,
-        } => {
-            write!(text, "open relay {listen} {feed} {slots}")?;
-            append_control(text, control)
-        }
+        } => write!(text, "open relay {listen} {feed} {slots}\n"),
         Opening::Gateway { listen, control } => write!(text, "open gateway {listen} {control}\n"),
     }
 }
