@@ -1,12 +1,18 @@
 -- A run on devices that were opened and given back, put together.
-use Rattle.std.proofs.Common.{◌≡◌, ℕ, List, length, Option, IsSome, subst, ◌∙◌}
+use Rattle.std.proofs.Common.{◌≡◌, ℕ, List, length, Option, None, Some, IsSome, refl, subst, ◌∙◌}
 use Rattle.amt_config.specs.{Relay.{settings_of}, declared.config.RelayConfig.{RelayConfig}}
 use Rattle.serving_commands.specs.{Sets.{TakesFirst, less_room, more_room}, declared.opening.{asked.Opening.{Opening, TheVariants.{Relay as AskedRelay}}, devices.{DeviceSet.TheVariants.{Relay as RelaySet}, RelayDevices.{RelayDevices}}, live.Live.{Ghosts as LiveTells}}}
 use Rattle.serving_commands.{specs.{RelayLives.{links_out_seen, set_seen}, RelayOpenings.{IsRefusedBy, opening_by, slots_of}, RelayPlans.{plan_by}, RelayRunning.{Runs, RunsBy}, Kinds.{relay_file}, Lives.{Tells}, Openings.{IsRefused}, Reading.{IsConfigured}}, proofs.Lending.{lent}}
 use Rattle.amt_ports.specs.Told.{Appends}
 use Rattle.published_table.specs.declared.view.View.{View}
 use Rattle.relay_machine.specs.declared.settings.Settings.{Settings}
-use Rattle.relay_serving.specs.{Serving.{Serves}, declared.plan.{ServePlan.{ServePlan}, ServeReport.{ServeReport}}}
+use Rattle.response_mac.specs.declared.secret.Secret.{Secret}
+use Rattle.relay_serving.specs.{Asked.{Round}, Controls.{ControlSeen}, Rounds.{ControlServes}, Serving.{Serves}, Turns.{Turn}, declared.plan.{ServePlan.{ServePlan}, ServeReport.{ServeReport}}}
+
+-- without a control there is none after the run either
+no_control : (settings : Settings) (first : Secret) (workers : ℕ) (control : Option ControlSeen) (turns : List Turn) (rounds : List Round) → ControlServes settings first workers None control turns rounds → control ≡ None
+no_control settings first workers None turns rounds served = refl
+no_control settings first workers (Some control) turns rounds served = absurd served
 
 -- the opening that was asked for is the plan's
 asks : (before after : Option (List Opening)) (config : RelayConfig) (plan : ServePlan) (slots : ℕ) → slots ≡ slots_of plan
@@ -35,22 +41,25 @@ module _ {V L F C W O P T : Type 0} (live : LiveTells V L F C W O P T) where
 
 module _ {V L F C W O P T : Type 0} (told : Tells V L F C W O P T) where
   pub ran : (config : RelayConfig) (plan : ServePlan) (before between after : V) (opened left : RelayDevices L F C W O P) (views : List View) (report : ServeReport)
-      (settings : Settings) (slots : ℕ) → settings ≡ settings_of config → slots ≡ slots_of plan → length opened.outs ≡ slots
+      (settings : Settings) (slots : ℕ) (control : Option ControlSeen) → settings ≡ settings_of config → slots ≡ slots_of plan → length opened.outs ≡ slots
       → Appends (told.live.asked before) (told.live.asked between) (AskedRelay config.listen config.feed slots)
       → TakesFirst (told.live.sets before) (told.live.sets between) (RelaySet opened) → (IsSome (told.live.asked before) → IsSome (told.live.asked between))
       → told.live.returned between ≡ told.live.returned before → told.live.room between ≡ more_room (told.live.room before)
       → Appends (told.live.returned between) (told.live.returned after) (RelaySet left) → (IsSome (told.live.returned between) → IsSome (told.live.returned after))
       → told.live.room after ≡ less_room (told.live.room between) → told.live.sets after ≡ told.live.sets between → told.live.asked after ≡ told.live.asked between
-      → Serves settings plan (set_seen told opened) (set_seen told left) (links_out_seen told opened) (links_out_seen told left) views report
+      → Serves settings plan (set_seen told opened) (set_seen told left) None control (links_out_seen told opened) (links_out_seen told left) views report
       → RunsBy told config plan before after report
-  ran config plan before between after opened left views report settings slots settings_are slots_are outs asked first tells returned more back tells_back less sets asked_after serves = record {
+  ran config plan before between after opened left views report settings slots control settings_are slots_are outs asked first tells returned more back tells_back less sets asked_after serves = record {
     opened = opened;
     left = left;
     lent = lent told.live (opening_by config plan) (RelaySet opened) (RelaySet left) before between after (asks _ _ config plan slots slots_are asked) first tells returned more
         back tells_back less sets asked_after;
     outs = outs ∙ slots_are;
     views = views;
-    serves = subst (λ (one : Settings). Serves one plan (set_seen told opened) (set_seen told left) (links_out_seen told opened) (links_out_seen told left) views report) settings_are serves;
+    serves =
+        subst (λ (one : Settings). Serves one plan (set_seen told opened) (set_seen told left) None None (links_out_seen told opened) (links_out_seen told left) views report) settings_are
+        (subst (λ (none : Option ControlSeen). Serves settings plan (set_seen told opened) (set_seen told left) None none (links_out_seen told opened) (links_out_seen told left) views report)
+        (no_control _ _ _ control _ _ serves.asked) serves);
   }
 
   pub ran_by : (content : Option (List ℕ)) (config : RelayConfig) (turns : ℕ) (workers : Option ℕ) (before after : V) (plan : ServePlan) (report : ServeReport)

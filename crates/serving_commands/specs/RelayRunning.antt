@@ -1,5 +1,5 @@
 -- A run of a relay on devices that are opened for it.
-use Rattle.std.specs.Prelude.{◌≡◌, ℕ, List, length, Option}
+use Rattle.std.specs.Prelude.{◌≡◌, ℕ, List, length, Option, None}
 use Rattle.amt_config.specs.{Relay.{settings_of}, declared.config.RelayConfig.{RelayConfig}}
 use Rattle.serving_commands.specs.{declared.opening.devices.{DeviceSet.TheVariants.{Relay as RelaySet}, RelayDevices.{RelayDevices}}, RelayLives.{links_out_seen, set_seen}, RelayOpenings.{opening_by, slots_of}, RelayPlans.{plan_by}, Kinds.{relay_file}, Lives.{Tells}, Openings.{IsLent}, Reading.{IsConfigured}}
 use Rattle.published_table.specs.declared.view.View.{View}
@@ -13,9 +13,9 @@ module _ {V L F C W O P T : Type 0} (told : Tells V L F C W O P T) where
     pub left : RelayDevices L F C W O P
     pub lent : IsLent told.live (opening_by config plan) (RelaySet opened) (RelaySet left) before after
     pub outs : length opened.outs ≡ slots_of plan
-    -- the run
+    -- the run, which nobody can ask for anything
     pub views : List View
-    pub serves : Serves (settings_of config) plan (set_seen told opened) (set_seen told left)
+    pub serves : Serves (settings_of config) plan (set_seen told opened) (set_seen told left) None None
         (links_out_seen told opened) (links_out_seen told left) views report
 
   -- the relay of the settings file's settings ran as the command says

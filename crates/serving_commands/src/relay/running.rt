@@ -11,8 +11,8 @@ use crate::opening::{Live, OpenFault, RelayDevices};
 use crate::reading::read_settings;
 use crate::relay::plan::plan_by;
 use amt_config::RelayConfig;
-use amt_ports::Files;
-use relay_serving::{ServePlan, ServeReport, Served, serve_relay};
+use amt_ports::{Files, UdpControl};
+use relay_serving::{Control, MemCopies, ServePlan, ServeReport, Served, serve_relay};
 use std::alloc::Global;
 use std::sync::Wait;
 
@@ -49,6 +49,8 @@ fn run_by<R: Wait, V: Live>(
         outs,
         mut spawner,
     } = devices;
+    // No setting opens a control yet.
+    let mut control = None::<Control<UdpControl, MemCopies>>;
     let Served {
         report,
         outs,
@@ -64,6 +66,7 @@ fn run_by<R: Wait, V: Live>(
         &mut words,
         outs,
         &mut spawner,
+        &mut control,
     );
     live.return_relay(RelayDevices {
         link,

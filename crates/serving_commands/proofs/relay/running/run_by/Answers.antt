@@ -26,6 +26,6 @@ returns-clause-ran g c =
       words = served.new.words;
       outs = served.result.outs;
       spawner = served.new.spawner;
-    }) (views_of served.result.views) served.result.report c.settings.result c.max-slots.result c.settings.ensures c.max-slots.ensures
+    }) (views_of served.result.views) served.result.report c.settings.result c.max-slots.result _ c.settings.ensures c.max-slots.ensures
     opening.outs c.open_relay.ensures.asked opening.first opening.tells c.open_relay.ensures.returned opening.room
     back.returned back.tells back.room back.kept back.asked)
