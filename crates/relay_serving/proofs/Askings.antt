@@ -1,13 +1,13 @@
 -- Lines that ask a running relay for something: one, and all of a turn.
-use Rattle.std.{proofs.{Common.{◌≡◌, ℕ, ◌+◌, ◌≤◌, ◌<◌, max, Bool, true, false, ◌||◌, List, [], ◌∷◌, ◌++◌, length, map, refl, sym, ap, subst, ◌∙◌, append-nil, arith, length-append}, lemmas.{List.{Folds.{list_any-append}, Sums.{count_by-le-length}}}}, specs.{Prelude.{IfErr, IfOk, Option, None, Some, Result, Ok, Err}, List.{list_any}}}
-use Rattle.amt_ports.{specs.{Causes.{Rose}, Devices.{AnswersAll, LinkSeen}, Sends.{TriedSend}, Told.{Answers, Appends}, Tried.{HasTried}, declared.{link.LinkAnswer.{LinkAnswer, TheVariants.{Datagram as LineCame, Nothing as NothingCame, Closed as LinkClosed}}, out_link.OutLink.{Ghosts}}}, proofs.Lists.{one_answer}}
+use Rattle.std.{proofs.{Common.{◌≡◌, ℕ, ◌+◌, ◌≤◌, ◌<◌, Bool, true, false, ◌||◌, List, [], ◌∷◌, ◌++◌, length, map, refl, sym, subst, ◌∙◌, append-nil, arith, length-append}, lemmas.{List.{Folds.{list_any-append}, Sums.{count_by-le-length}}}}, specs.{Prelude.{IfErr, IfOk, Option, None, Some, Result, Ok, Err}, List.{list_any}}}
+use Rattle.amt_ports.{specs.{Devices.{LinkSeen}, Sends.{TriedSend}, Told.{Answers, Appends}, Tried.{HasTried}, declared.{link.LinkAnswer.{LinkAnswer, TheVariants.{Datagram as LineCame, Closed as LinkClosed}}, out_link.OutLink.{Ghosts}}}}
 use Rattle.amt_values.specs.{Conditions.{First}, declared.peer.Peer.{Peer}}
 use Rattle.control_lines.specs.{Answer.{HasReplied, sent_to}, Asking.{Asks, Fails, line_of, order_of_reasons}, declared.asking.Asking.{Asking}}
 use Rattle.response_mac.specs.declared.secret.Secret.{Secret}
 use Rattle.script_lines.specs.declared.reason.Reason.{Reason}
 use Rattle.relay_machine.specs.declared.settings.Settings.{Settings}
-use Rattle.relay_serving.specs.{Asked.{AreAnswered, Asked, EndsRound, Failed, Full, HasAnswer, IsAnswered, IsEnd, IsRead, IsRound, IsUntried, Round, RoundEnd, Shut, Silent, is_stop, is_stopped, line_more, no_line, refused_among, refusing_more}, AskingServers.{LineSo, NextSo, RoundSo, refusing, standing_in}, Controls.{ControlSeen}}
-use Rattle.relay_serving.specs.{Counting.{one_if}, Happenings.{Happening}, Replies.{Standing, reply_text}, Servers.{counts_in, first_in, happenings_in, settings_in, tally_in}, Traces.{Does, ServerDoes, at_server, nothing, starving}, declared.{control.CopyCount.{CopyCount}, server.Server.{Server}}}
+use Rattle.relay_serving.specs.{Asked.{AreAnswered, Asked, EndsRound, Failed, Full, HasAnswer, IsAnswered, IsEnd, IsRead, IsUntried, RoundEnd, Shut, Silent, is_stop, line_more, no_line, refused_among, refusing_more}, AskingServers.{LineSo, NextSo, RoundSo, refusing, standing_in}, Controls.{ControlSeen}}
+use Rattle.relay_serving.specs.{Replies.{Standing, reply_text}, Servers.{counts_in, first_in, happenings_in, settings_in, tally_in}, Traces.{ServerDoes, at_server, starving}, declared.{control.CopyCount.{CopyCount}, server.Server.{Server}}}
 use Rattle.relay_serving.proofs.{Answering.{no_more}, Counting.{count_more}, Traces.{Does-at, Does-none, Does-then, alone}}
 
 -- what a line was read as

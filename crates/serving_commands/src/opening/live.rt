@@ -3,11 +3,11 @@ ghost use Rattle.std.specs.Prelude.{◌≡◌, ◌≤◌, ℕ, IfOk, IsErrOf, Is
 ghost use Rattle.amt_ports.specs.{Causes.{Rose}, Told.{Appends}};
 ghost use Rattle.serving_commands.specs.{Sets.{HasRoom, TakesFirst, less_room, more_room}, declared.opening.{asked.Opening.{Opening as Asked, TheVariants.{Relay as AskedRelay, Gateway as AskedGateway}}, devices.DeviceSet.{DeviceSet as Set, TheVariants.{Relay as RelaySet, Gateway as GatewaySet}}}};
 
-use crate::control::Copies;
 use crate::opening::asked::Opening;
 use crate::opening::devices::{GatewayDevices, RelayDevices};
 use amt_ports::{Clock, Feed, Link, OutLink, Spawner, Words};
 use amt_values::Peer;
+use relay_serving::Copies;
 use replication_workers::Worker;
 
 /// Why devices were not opened.

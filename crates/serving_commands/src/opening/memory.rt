@@ -3,13 +3,13 @@ ghost use Rattle.std.specs.Prelude.{◌≡◌, ◌≤◌, ◌<◌, ◌⊎◌, []
 ghost use Rattle.amt_ports.specs.{Causes.{HasCause, Rose, next_count}, Tally.{fresh_tally, with_call, with_fault}, Told.{Appends}};
 ghost use Rattle.serving_commands.specs.{MemLive.{with_room}, Sets.{HasRoom, TakesFirst, fits_gateway, fits_relay, is_as_asked, less_room, more_room}, declared.opening.{asked.Opening.TheVariants.{Relay as AskedRelay, Gateway as AskedGateway}, devices.DeviceSet.TheVariants.{Relay as RelaySet, Gateway as GatewaySet}}};
 
-use crate::control::Copies;
 use crate::opening::asked::{AskedLog, Opening};
 use crate::opening::devices::{DeviceSet, GatewayDevices, RelayDevices};
 use crate::opening::live::{Live, OpenFault};
 use crate::opening::returns::Returns;
 use amt_ports::{CallTally, Clock, Failed, Feed, Link, OutLink, Spawner, Words};
 use amt_values::Peer;
+use relay_serving::Copies;
 use replication_workers::Worker;
 use std::alloc::Global;
 use std::marker::Model;

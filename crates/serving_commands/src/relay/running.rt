@@ -48,7 +48,7 @@ fn run_by<R: Wait, V: Live>(
         mut words,
         outs,
         mut spawner,
-        control,
+        mut control,
     } = devices;
     let Served {
         report,
@@ -65,6 +65,7 @@ fn run_by<R: Wait, V: Live>(
         &mut words,
         outs,
         &mut spawner,
+        &mut control,
     );
     live.return_relay(RelayDevices {
         link,

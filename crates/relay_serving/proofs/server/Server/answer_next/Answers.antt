@@ -1,6 +1,6 @@
-use Rattle.std.proofs.Common.{[], ◌∷◌, ap, arith, refl, subst, take}
+use Rattle.std.proofs.Common.{ap, arith, refl, subst}
 use Rattle.amt_ports.{specs.{Arrivals.{link_answer}, Told.{Answers}, declared.link.{Got.{Got}, LinkAnswer.TheVariants.{Nothing as NothingCame, Closed as LinkClosed}}}, proofs.Lists.{one_answer}}
-use Rattle.relay_serving.{specs.{Asked.{Failed, Shut, Silent}, Controls.{ControlSeen}}, proofs.Askings.{next_line, next_none}}
+use Rattle.relay_serving.{specs.{Asked.{Failed, Shut, Silent}}, proofs.Askings.{next_line, next_none}}
 use Rattle.relay_serving.proofs.server.Server.answer_next.Goals as goal
 
 pub returns-in-Ok-Datagram-clause-next : goal.returns-in-Ok-Datagram-clause-next
