@@ -7,10 +7,9 @@ use relay_serving::{Control, Copies, CopyCount};
 use replication_workers::Outs;
 use serving_commands::{CountedOut, HostLive, Live, OpenFault, SharedCopies};
 use std::alloc::{AllocError, Global};
-use std::io;
 use std::mem::replace;
-use std::thread;
 use std::thread::Threads;
+use std::{io, thread};
 
 const OTHER_FAMILY: Peer = Peer {
     ip: Ip::V6(1),
