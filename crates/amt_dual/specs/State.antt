@@ -55,8 +55,8 @@ sent_up pair = length pair.up
 abbrev pub sent_down : DualPair → ℕ
 sent_down pair = length pair.down
 
--- out of memory stopped a moment on its way: the relay and so many machines took their steps, whose parts these are, and the
--- machines after them took none
+-- out of memory stopped a moment on its way: the relay and the first machines took their steps, whose parts these are, and
+-- the machines after them took none
 pub record IsStarved (setup : PairSetup) (course : Course) (at : ℕ) (pair : DualPair) (parts : List DualPart) : Type 0 where
   pub count : ℕ
   pub some : count < length course.members

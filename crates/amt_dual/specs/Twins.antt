@@ -15,7 +15,7 @@ are_twins [] = true
 are_twins (v4 ∷ []) = false
 are_twins (v4 ∷ v6 ∷ rest) = are_of_one v4 v6 && are_twins rest
 
--- what tells machines apart: the name or the peer, and the family
+-- in what machines differ: the name or the peer, and the family
 abbrev pub name_and_family : Host → List ℕ × Bool
 name_and_family machine = (machine.name, machine.settings.v6)
 

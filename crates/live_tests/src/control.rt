@@ -3,13 +3,13 @@
 use crate::loopback::{ANY, FarEnd, WAIT_MS, buffer};
 use amt_ports::{Got, Link, MemOut, OutLink, UdpControl, UdpFeed, UdpLink};
 use amt_values::{Ip, Peer};
+use relay_serving::{Control, Copies, CopyCount};
 use replication_workers::Outs;
-use serving_commands::{
-    Control, Copies, CopyCount, CountedOut, HostLive, Live, OpenFault, SharedCopies,
-};
+use serving_commands::{CountedOut, HostLive, Live, OpenFault, SharedCopies};
 use std::alloc::{AllocError, Global};
-use std::io;
 use std::mem::replace;
+use std::thread::Threads;
+use std::{io, thread};
 
 const OTHER_FAMILY: Peer = Peer {
     ip: Ip::V6(1),
@@ -21,6 +21,7 @@ const LINE: &[u8] = b"counts\n";
 const ANSWER: &[u8] = b"turns 3\n. 1\n";
 
 // Where a control socket is to be, who asks there, and where copies go.
+#[derive(Clone, Copy)]
 struct Ends<'a> {
     at: Peer,
     far: &'a FarEnd,
@@ -167,4 +168,21 @@ fn counts(alloc: Global) -> Result<[(usize, u64, u64); 3], AllocError> {
 #[test]
 fn the_numbers_of_copies_are_those_of_the_sends_of_all_links_that_are_counted(rt: HostRuntime) {
     assert!(rt; counts(rt.alloc()) == Ok([(2, 2, 1), (0, 2, 4), (2, 2, 4)]));
+}
+
+// What a link sends in a thread of its own, and the numbers after it.
+fn counts_there<R: Threads>(rt: &R, alloc: Global) -> Result<(usize, u64, u64), AllocError> {
+    let mut copies = SharedCopies::new(alloc);
+    let mut out = copies.counted(out_of(alloc, &[2])?)?;
+    let Ok(child) = thread::spawn(rt, move || sent_by(&mut out)) else {
+        return Err(AllocError);
+    };
+    let sent = child.join(rt);
+    let (taken, refused) = counts_of(&mut copies);
+    Ok((sent, taken, refused))
+}
+
+#[test]
+fn what_a_link_sends_in_another_thread_is_in_the_numbers(rt: HostRuntime) {
+    assert!(rt; counts_there(&rt, rt.alloc()) == Ok((2, 2, 1)));
 }

@@ -4,9 +4,10 @@ ghost use Rattle.std.specs.Prelude.{None};
 
 use amt_ports::{Failed, MemClock, MemFeed, MemLink, MemOut, MemWords, Spawner, Task};
 use amt_values::{Ip, Peer};
+use relay_serving::Control;
 use replication_workers::{Outs, Worker, WorkerDone};
 use serving_commands::{
-    Control, DeviceSet, GatewayDevices, Live, MemLive, OpenFault, RelayDevices, SharedCopies,
+    DeviceSet, GatewayDevices, Live, MemLive, OpenFault, RelayDevices, SharedCopies,
 };
 use std::alloc::{AllocError, Global};
 use std::collections::VecDeque;
@@ -53,11 +54,27 @@ impl<R: Wait> Spawner<Worker<MemOut>> for AtJoin<R> {
     }
 }
 
-type MemSet<R> =
-    DeviceSet<MemLink, MemFeed, MemClock, MemWords, MemOut, AtJoin<R>, MemLink, SharedCopies>;
+type MemSet<R> = DeviceSet<
+    MemLink,
+    MemFeed,
+    MemClock,
+    MemWords,
+    MemOut,
+    AtJoin<R>,
+    MemLink,
+    SharedCopies,
+>;
 
-type MemSets<R> =
-    MemLive<MemLink, MemFeed, MemClock, MemWords, MemOut, AtJoin<R>, MemLink, SharedCopies>;
+type MemSets<R> = MemLive<
+    MemLink,
+    MemFeed,
+    MemClock,
+    MemWords,
+    MemOut,
+    AtJoin<R>,
+    MemLink,
+    SharedCopies,
+>;
 
 fn outs_of(alloc: Global, count: usize) -> Result<Outs<MemOut>, AllocError> {
     let mut outs = Vec::with_capacity(alloc, count)?;

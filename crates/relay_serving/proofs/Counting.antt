@@ -11,11 +11,11 @@ use Rattle.amt_ports.specs.Devices.{LinkSeen}
 use Rattle.replication_workers.specs.Replication.{to_peer}
 use Rattle.relay_serving.specs.{Counting.{CountsAlike, HasAnswered, IsCounted, is_datagram, is_packet, no_counts, one_if, with_late, with_outcome}, Happenings.{Happening, events_among}, declared.counts.Counts.{Counts}}
 
-count_more : {X : Type 0} (test : X → Bool) (xs : List X) (x : X) → count_by test (xs ++ x ∷ []) ≡ count_by test xs + one_if (test x)
+pub count_more : {X : Type 0} (test : X → Bool) (xs : List X) (x : X) → count_by test (xs ++ x ∷ []) ≡ count_by test xs + one_if (test x)
 count_more {X} test xs x = sum_more (λ (one : X). one_if (test one)) xs x
 
 -- each event is answered once
-length-each_after : {E A : Type 0} (answer : List E → E → A) (before events : List E) → length (each_after answer before events) ≡ length events
+pub length-each_after : {E A : Type 0} (answer : List E → E → A) (before events : List E) → length (each_after answer before events) ≡ length events
 length-each_after answer before [] = refl
 length-each_after answer before (event ∷ rest) = let later = length-each_after answer (before ++ event ∷ []) rest in omega (arith, later)
 

@@ -1,11 +1,13 @@
 pub mod AnswerSends
 pub mod Answering
+pub mod Askings
 pub mod Counting
 pub mod Drawing
 pub mod Ending
 pub mod Entering
 pub mod GivenOut
 pub mod Happenings
+pub mod OutcomeCounts
 pub mod Owed
 pub mod OwedLate
 pub mod Packets

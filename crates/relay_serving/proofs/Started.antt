@@ -1,8 +1,8 @@
 -- Which workers a run started.
-use Rattle.std.{proofs.Common.{◌≡◌, ◌≢◌, ℕ, zero, suc, ◌==◌, ◌≤◌, max, not, Bool, true, false, List, [], ◌∷◌, length, refl, sym, ap, subst, ◌∙◌, arith, length-append}, specs.Prelude.{Option, None, Some}}
+use Rattle.std.{proofs.Common.{◌≡◌, ◌≢◌, ℕ, zero, suc, ◌==◌, ◌<◌, ◌≤◌, max, not, Bool, true, false, List, [], ◌∷◌, length, refl, sym, ap, subst, ◌∙◌, arith, length-append}, specs.Prelude.{Option, None, Some}}
 use Rattle.amt_ports.specs.declared.end.End.{End, TheVariants.{SpawnFault}}
 use Rattle.replication_workers.specs.Starting.{HaveStarted}
-use Rattle.relay_serving.{specs.{Runs.{HasEnded, with_cut}, Serving.{StartsWorkers}, Turns.{Progress, Turn}, declared.plan.ServePlan.{ServePlan}}, proofs.GivenOut.{other_number}}
+use Rattle.relay_serving.{specs.{Asked.{Round}, Runs.{HasDone, HasEnded, all_turns, stopped, with_cut}, Serving.{StartsWorkers}, Turns.{Progress, Turn}, declared.plan.ServePlan.{ServePlan}}, proofs.GivenOut.{other_number}}
 
 -- no start was tried
 pub starts_none : (workers : ℕ) (end : End) (before after : Option ℕ) → after ≡ before → StartsWorkers workers [] end before after
@@ -36,17 +36,21 @@ each_started (suc others) outs threads before after mode number started idle =
     subst (λ (workers : ℕ). HaveStarted workers before after) (let is : outs ≡ suc others = omega (arith, number) in is) (started (mode ∙ has_threads others))
 
 -- a run that has ended had a turn
-some_turn : (plan : ServePlan) (end : End) (last : Progress) (whole : List Turn) (cut : Option Turn) → 1 ≤ plan.turns → HasEnded plan end (length whole) last cut
+some_done : (plan : ServePlan) (done : ℕ) (rounds : List Round) → 1 ≤ plan.turns → HasDone plan done rounds → 0 < done
+some_done plan done rounds some (all_turns is goes) = omega (arith, some, is)
+some_done plan done rounds some (stopped earlier last are goes stops has few) = has
+
+some_turn : (plan : ServePlan) (end : End) (rounds : List Round) (last : Progress) (whole : List Turn) (cut : Option Turn) → 1 ≤ plan.turns → HasEnded plan end (length whole) rounds last cut
     → with_cut whole cut ≢ []
-some_turn plan end last whole None some ended = λ none. omega (arith, some, ended.1, ap length none)
-some_turn plan end last whole (Some turn) some ended = λ none. omega (arith, length-append whole (turn ∷ []), ap length none)
+some_turn plan end rounds last whole None some ended = λ none. let has = some_done plan (length whole) rounds some ended.1 in omega (arith, has, ap length none)
+some_turn plan end rounds last whole (Some turn) some ended = λ none. omega (arith, length-append whole (turn ∷ []), ap length none)
 
 -- the turns began
-pub starts_all : (plan : ServePlan) (end : End) (last : Progress) (whole : List Turn) (cut : Option Turn) (outs : ℕ) (threads : Bool) (before after : Option ℕ)
-    → 1 ≤ plan.turns → HasEnded plan end (length whole) last cut → threads ≡ not (plan.workers == 0) → outs ≡ max plan.workers 1
+pub starts_all : (plan : ServePlan) (end : End) (rounds : List Round) (last : Progress) (whole : List Turn) (cut : Option Turn) (outs : ℕ) (threads : Bool) (before after : Option ℕ)
+    → 1 ≤ plan.turns → HasEnded plan end (length whole) rounds last cut → threads ≡ not (plan.workers == 0) → outs ≡ max plan.workers 1
     → (threads ≡ true → HaveStarted outs before after) → (threads ≡ false → after ≡ before) → StartsWorkers plan.workers (with_cut whole cut) end before after
-starts_all plan end last whole cut outs threads before after some ended mode number started idle = record {
+starts_all plan end rounds last whole cut outs threads before after some ended mode number started idle = record {
   all = λ _. each_started plan.workers outs threads before after mode number started idle;
   none = λ none. idle (no_threads plan.workers threads mode none);
-  none_yet = λ none _. absurd (some_turn plan end last whole cut some ended none);
+  none_yet = λ none _. absurd (some_turn plan end rounds last whole cut some ended none);
 }

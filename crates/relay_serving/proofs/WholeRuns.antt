@@ -8,7 +8,7 @@ use Rattle.published_table.{specs.{Lists.{BeginsWith}, Publishers.{book_of}, Vie
 use Rattle.response_mac.specs.declared.secret.Secret.{Secret}
 use Rattle.relay_machine.specs.{Published.{published_log}, declared.{event.Event.{Event}, settings.Settings.{Settings}}}
 use Rattle.replication_workers.specs.{Dispatchers.{is_threaded}, Replicators.{out_of}, SlotStates.{jobs_in_all}, Starting.{HaveStarted}}
-use Rattle.relay_serving.specs.{Counting.{AreCounted, is_datagram}, Devices.{Devices, devices_seen, outs_seen}, Drawing.{DrawsSecret, IsDrawn}, Ending.{Finishes}}
+use Rattle.relay_serving.specs.{Asked.{Round}, Controls.{ControlSeen}, Rounds.{ControlServes}, Counting.{AreCounted, is_datagram}, Devices.{Devices, devices_seen, outs_seen}, Drawing.{DrawsSecret, IsDrawn}, Ending.{Finishes}}
 use Rattle.relay_serving.specs.{Events.{events_of, first_of, happenings_of, published_events, secret_by}, GivenOut.{AreGivenOut, starts_in}}
 use Rattle.relay_serving.specs.{Happenings.{Happening, events_among, published_events_among}, Reports.{report_of, unused_report}}
 use Rattle.relay_serving.specs.Runs.{HasEnded, IsCut, MayGo, Run, served, turns_of, unstarted, without_secret, words_drawn}
@@ -16,24 +16,25 @@ use Rattle.relay_serving.specs.Sending.{answers_after, due_of, dues_after}
 use Rattle.relay_serving.specs.Serving.{AreOwedLate, ArePublished, IsOwedBy, OutsServed, Serves, StartsWorkers, one_lost, unused, used}
 use Rattle.relay_serving.specs.Servers.{events_in, first_in, happenings_in, owing_in, published_in, settings_in, slots_in, tally_in}
 use Rattle.relay_serving.specs.{Starting.{AreLeftBy, AreStarts, IsAtStart}, Traces.{world}, Turning.{RunsSo}, Turns.{Progress, Turn}, declared.counts.Counts.{Counts}}
-use Rattle.relay_serving.{specs.declared.{plan.{ServePlan.{ServePlan}, ServeReport.{ServeReport}}, server.{Server.{Server}, ending.Ending.{Ending}}}, proofs.{GivenOut.{jobs_count}, Owed.{is_prompt, owed_by}, OwedLate.{AreOwedLate-none}, SlotsServed.{Slotted, all_inline, are_served, slotted}, Started.{starts_all, starts_none, starts_refused}, Together.{read_prefixes}}}
+use Rattle.relay_serving.{specs.declared.{plan.{ServePlan.{ServePlan}, ServeReport.{ServeReport}}, server.{Server.{Server}, ending.Ending.{Ending}}}, proofs.{GivenOut.{jobs_count}, Owed.{is_prompt, owed_by}, OwedLate.{AreOwedLate-none}, Running.{control_unasked}, SlotsServed.{Slotted, all_inline, are_served, slotted}, Started.{starts_all, starts_none, starts_refused}, Together.{read_prefixes}}}
 
 -- of a run without any turn
 abbrev unrun : List ℕ → Run
-unrun first = record { first = first; whole = []; cut = None }
+unrun first = record { first = first; whole = []; cut = None; rounds = [] }
 
-not_run : (settings : Settings) (plan : ServePlan) (end : End) (first : List ℕ) (clock : Option (List ℕ)) (words words' : WordsSeen) (link : LinkSeen) (feed : FeedSeen) (starts starts' : Option ℕ) (faults faults' : ℕ) (outs outs' : List OutSeen)
+not_run : (settings : Settings) (plan : ServePlan) (control : Option ControlSeen) (end : End) (first : List ℕ) (clock : Option (List ℕ)) (words words' : WordsSeen) (link : LinkSeen) (feed : FeedSeen) (starts starts' : Option ℕ) (faults faults' : ℕ) (outs outs' : List OutSeen)
     → AppendsAll words.given words'.given first → MayGo plan end (unrun first) → OutsServed settings plan (unrun first) (unused_report end) outs outs' starts starts' [] 0 0
     → StartsWorkers plan.workers [] end starts starts'
     → end ≢ LinkFault → end ≢ FeedFault → IsCauseOf end WordsFault words.faults words'.faults → IsCauseOf end SpawnFault faults faults'
-    → Serves settings plan (devices_seen clock words link feed starts faults) (devices_seen clock words' link feed starts' faults') outs outs' [] (unused_report end)
-not_run settings plan end first clock words words' link feed starts starts' faults faults' outs outs' drawn goes outs_are started no_link no_feed words_are starts_are = record {
+    → Serves settings plan (devices_seen clock words link feed starts faults) (devices_seen clock words' link feed starts' faults') control control outs outs' [] (unused_report end)
+not_run settings plan control end first clock words words' link feed starts starts' faults faults' outs outs' drawn goes outs_are started no_link no_feed words_are starts_are = record {
   run = unrun first;
   goes = goes;
   clock = AppendsAll-none clock;
   words = subst (AppendsAll words.given words'.given) (sym (append-nil first)) drawn;
   link = refl;
   feed = refl;
+  asked = control_unasked settings (first_of (unrun first)) plan.workers control;
   started = started;
   link_sent = 0;
   link_unsent = 0;
@@ -56,45 +57,45 @@ not_run settings plan end first clock words words' link feed starts starts' faul
 }
 
 -- words were lacking
-pub serves_without_secret : (settings : Settings) (plan : ServePlan) (first : List ℕ) (clock : Option (List ℕ)) (words words' : WordsSeen) (link : LinkSeen) (feed : FeedSeen) (starts : Option ℕ) (faults : ℕ) (outs : List OutSeen)
+pub serves_without_secret : (settings : Settings) (plan : ServePlan) (control : Option ControlSeen) (first : List ℕ) (clock : Option (List ℕ)) (words words' : WordsSeen) (link : LinkSeen) (feed : FeedSeen) (starts : Option ℕ) (faults : ℕ) (outs : List OutSeen)
     → AppendsAll words.given words'.given first → length first < 4 → Rose words.faults words'.faults
-    → Serves settings plan (devices_seen clock words link feed starts faults) (devices_seen clock words' link feed starts faults) outs outs [] (unused_report WordsFault)
-serves_without_secret settings plan first clock words words' link feed starts faults outs drawn few rose =
+    → Serves settings plan (devices_seen clock words link feed starts faults) (devices_seen clock words' link feed starts faults) control control outs outs [] (unused_report WordsFault)
+serves_without_secret settings plan control first clock words words' link feed starts faults outs drawn few rose =
     let not_spawn : WordsFault ≢ SpawnFault = λ is. cc is in
-    not_run settings plan WordsFault first clock words words' link feed starts starts faults faults outs outs drawn (without_secret few refl refl refl)
+    not_run settings plan control WordsFault first clock words words' link feed starts starts faults faults outs outs drawn (without_secret few refl refl refl refl)
     (unused not_spawn refl refl refl (record { no_inline = refl; none_owed = refl; none_published = refl; none_apart = refl }) refl refl)
     (starts_none plan.workers WordsFault starts starts refl)
     (λ is. cc is) (λ is. cc is) ((λ is. rose), (λ other. absurd (other refl))) ((λ is. absurd (not_spawn is)), (λ other. refl))
 
 -- no relay was started
-pub serves_unstarted : (settings : Settings) (plan : ServePlan) (end : End) (first : List ℕ) (clock : Option (List ℕ)) (words words' : WordsSeen) (link : LinkSeen) (feed : FeedSeen) (starts starts' : Option ℕ) (faults faults' : ℕ) (outs outs' : List OutSeen)
+pub serves_unstarted : (settings : Settings) (plan : ServePlan) (control : Option ControlSeen) (end : End) (first : List ℕ) (clock : Option (List ℕ)) (words words' : WordsSeen) (link : LinkSeen) (feed : FeedSeen) (starts starts' : Option ℕ) (faults faults' : ℕ) (outs outs' : List OutSeen)
     → AppendsAll words.given words'.given first → length first ≡ 4 → words'.faults ≡ words.faults → AreLeftBy end outs outs' starts starts' faults faults'
     → (threads : Bool) → threads ≡ not (plan.workers == 0) → (threads ≡ false → starts' ≡ starts)
-    → Serves settings plan (devices_seen clock words link feed starts faults) (devices_seen clock words' link feed starts' faults') outs outs' [] (unused_report end)
-serves_unstarted settings plan Memory first clock words words' link feed starts starts' faults faults' outs outs' drawn four quiet left threads mode idle =
+    → Serves settings plan (devices_seen clock words link feed starts faults) (devices_seen clock words' link feed starts' faults') control control outs outs' [] (unused_report end)
+serves_unstarted settings plan control Memory first clock words words' link feed starts starts' faults faults' outs outs' drawn four quiet left threads mode idle =
     let not_spawn : Memory ≢ SpawnFault = λ is. cc is in
-    not_run settings plan Memory first clock words words' link feed starts starts' faults faults' outs outs' drawn (unstarted four (inl refl) refl refl)
+    not_run settings plan control Memory first clock words words' link feed starts starts' faults faults' outs outs' drawn (unstarted four (inl refl) refl refl refl)
     (unused not_spawn refl left.0 refl (record { no_inline = refl; none_owed = refl; none_published = refl; none_apart = refl }) refl refl)
     (starts_none plan.workers Memory starts starts' left.1)
     (λ is. cc is) (λ is. cc is) ((λ is. cc is), (λ other. quiet)) ((λ is. absurd (not_spawn is)), (λ other. left.2))
-serves_unstarted settings plan SpawnFault first clock words words' link feed starts starts' faults faults' outs outs' drawn four quiet left threads mode idle =
-    not_run settings plan SpawnFault first clock words words' link feed starts starts' faults faults' outs outs' drawn (unstarted four (inr refl) refl refl)
+serves_unstarted settings plan control SpawnFault first clock words words' link feed starts starts' faults faults' outs outs' drawn four quiet left threads mode idle =
+    not_run settings plan control SpawnFault first clock words words' link feed starts starts' faults faults' outs outs' drawn (unstarted four (inr refl) refl refl refl)
     (one_lost refl refl left.0 refl (record { no_inline = refl; none_owed = refl; none_published = refl; none_apart = refl }) refl refl)
     (starts_refused plan.workers threads starts starts' mode idle)
     (λ is. cc is) (λ is. cc is) ((λ is. cc is), (λ other. quiet)) ((λ is. left.1), (λ other. absurd (other refl)))
-serves_unstarted settings plan Turns first clock words words' link feed starts starts' faults faults' outs outs' drawn four quiet left threads mode idle = absurd left
-serves_unstarted settings plan Closed first clock words words' link feed starts starts' faults faults' outs outs' drawn four quiet left threads mode idle = absurd left
-serves_unstarted settings plan LinkFault first clock words words' link feed starts starts' faults faults' outs outs' drawn four quiet left threads mode idle = absurd left
-serves_unstarted settings plan FeedFault first clock words words' link feed starts starts' faults faults' outs outs' drawn four quiet left threads mode idle = absurd left
-serves_unstarted settings plan WordsFault first clock words words' link feed starts starts' faults faults' outs outs' drawn four quiet left threads mode idle = absurd left
+serves_unstarted settings plan control Turns first clock words words' link feed starts starts' faults faults' outs outs' drawn four quiet left threads mode idle = absurd left
+serves_unstarted settings plan control Closed first clock words words' link feed starts starts' faults faults' outs outs' drawn four quiet left threads mode idle = absurd left
+serves_unstarted settings plan control LinkFault first clock words words' link feed starts starts' faults faults' outs outs' drawn four quiet left threads mode idle = absurd left
+serves_unstarted settings plan control FeedFault first clock words words' link feed starts starts' faults faults' outs outs' drawn four quiet left threads mode idle = absurd left
+serves_unstarted settings plan control WordsFault first clock words words' link feed starts starts' faults faults' outs outs' drawn four quiet left threads mode idle = absurd left
 
 -- the same of what a call gave
-pub reported : (settings : Settings) (plan : ServePlan) (before after : Devices) (outs left left' : List OutSeen) (views views' : List View) (report report' : ServeReport)
-    → left' ≡ left → views' ≡ views → report' ≡ report → Serves settings plan before after outs left views report → Serves settings plan before after outs left' views' report'
-reported settings plan before after outs left left' views views' report report' one two three serves =
-    subst (Serves settings plan before after outs left' views') (sym three)
-    (subst (λ (list : List View). Serves settings plan before after outs left' list report) (sym two)
-    (subst (λ (list : List OutSeen). Serves settings plan before after outs list views report) (sym one) serves))
+pub reported : (settings : Settings) (plan : ServePlan) (before after : Devices) (control control' : Option ControlSeen) (outs left left' : List OutSeen) (views views' : List View) (report report' : ServeReport)
+    → left' ≡ left → views' ≡ views → report' ≡ report → Serves settings plan before after control control' outs left views report → Serves settings plan before after control control' outs left' views' report'
+reported settings plan before after control control' outs left left' views views' report report' one two three serves =
+    subst (Serves settings plan before after control control' outs left' views') (sym three)
+    (subst (λ (list : List View). Serves settings plan before after control control' outs left' list report) (sym two)
+    (subst (λ (list : List OutSeen). Serves settings plan before after control control' outs list views report) (sym one) serves))
 
 -- the first secret is of four words
 pub four_words : (before after : Option (List ℕ)) (result : Result Secret Failed) (secret : Secret) (drawn : DrawsSecret before after result) → result ≡ Ok secret
@@ -111,9 +112,9 @@ pub has_risen : (before after : ℕ) (result : Result Secret Failed) (failed : F
 has_risen before after result failed cause is = (subst (λ (one : Result Secret Failed). HasCause before after one) is cause).failed
 
 -- no start is refused in turns
-no_spawn : (plan : ServePlan) (end : End) (done : ℕ) (last : Progress) (cut : Option Turn) → HasEnded plan end done last cut → end ≢ SpawnFault
-no_spawn plan end done last None ended is = cc (sym ended.0 ∙ is)
-no_spawn plan end done last (Some turn) ended is = subst (λ (one : End). IsCut one plan.rotate_ms last turn) is ended.1
+no_spawn : (plan : ServePlan) (end : End) (done : ℕ) (rounds : List Round) (last : Progress) (cut : Option Turn) → HasEnded plan end done rounds last cut → end ≢ SpawnFault
+no_spawn plan end done rounds last None ended is = cc (sym ended.0 ∙ is)
+no_spawn plan end done rounds last (Some turn) ended is = subst (λ (one : End). IsCut one plan.rotate_ms last turn) is ended.1
 
 sum_is : (now start more outs : ℕ) → now ≡ start + more → start ≡ 0 → now + outs ≡ more + outs
 sum_is now start more outs is none = omega (arith, is, none)
@@ -153,15 +154,15 @@ module _ {O : Type 0} {g : Ghosts O} {T : Type 0} where
       )
 
   module _ (settings : Settings) (plan : ServePlan) (secret : Secret) (outs : List O) (threads : Bool) (drawn : List ℕ) (start server : Server O T g) (ending : Ending O) (end : End) (turns : ℕ)
-      (clock clock' : Option (List ℕ)) (words words' words'' : WordsSeen) (link link' : LinkSeen) (feed feed' : FeedSeen)
+      (clock clock' : Option (List ℕ)) (words words' words'' : WordsSeen) (link link' : LinkSeen) (feed feed' : FeedSeen) (control control' : Option ControlSeen)
       (secret_is : secret ≡ secret_by drawn) (four : length drawn ≡ 4) (gave : AppendsAll words.given words'.given drawn) (quiet : words'.faults ≡ words.faults)
       (at : IsAtStart settings secret outs threads start)
       (link_wait link_wait' feed_wait feed_wait' room room' : ℕ)
-      (runs : RunsSo plan (world start (devices_seen clock words' link feed None 0) link_wait feed_wait room) (world server (devices_seen clock' words'' link' feed' None 0) link_wait' feed_wait' room') end turns)
+      (runs : RunsSo plan (world start (devices_seen clock words' link feed None 0) link_wait feed_wait room) (world server (devices_seen clock' words'' link' feed' None 0) link_wait' feed_wait' room') control control' end turns)
       (finishes : Finishes server ending) (some : 1 ≤ plan.turns) (number : length outs ≡ max plan.workers 1) (mode : threads ≡ not (plan.workers == 0))
       (starts starts' : Option ℕ) (all_started : threads ≡ true → HaveStarted (length outs) starts starts') (idle : threads ≡ false → starts' ≡ starts) where
     abbrev run_of : Run
-    run_of = record { first = drawn; whole = runs.whole; cut = runs.cut }
+    run_of = record { first = drawn; whole = runs.whole; cut = runs.cut; rounds = runs.rounds }
 
     settings_are : settings_in server ≡ settings
     settings_are = runs.does.happens.same.same_settings ∙ at.settings_are
@@ -213,6 +214,11 @@ module _ {O : Type 0} {g : Ghosts O} {T : Type 0} where
         subst (λ (secret : Secret). AreOwedLate settings secret (turns_of run_of)) (at.first_is ∙ secret_is)
         (subst (λ (known : Settings). AreOwedLate known (first_in start) (turns_of run_of)) at.settings_are runs.late_owed)
 
+    asked : ControlServes settings (first_of run_of) plan.workers control control' runs.whole runs.rounds
+    asked =
+        subst (λ (secret : Secret). ControlServes settings secret plan.workers control control' runs.whole runs.rounds) (at.first_is ∙ secret_is)
+        (subst (λ (known : Settings). ControlServes known (first_in start) plan.workers control control' runs.whole runs.rounds) at.settings_are runs.asked)
+
     is_owed : IsOwedBy (turns_of run_of) ending.owed
     is_owed some =
         owed_by settings (first_of run_of) (published_in server) (owing_in server) (turns_of run_of) log_is published_is
@@ -233,7 +239,7 @@ module _ {O : Type 0} {g : Ghosts O} {T : Type 0} where
           all_inline (slots_in server) given.jobs one given.at_slots ∙ jobs_count settings (first_of run_of) (happenings_of run_of) given.jobs due ∙ sym counted.packets_are)
 
       serves_by : (faults faults' : ℕ) → faults' ≡ faults → Slotted settings finishes.left.lefts (views_of ending.views)
-          → Serves settings plan (devices_seen clock words link feed starts faults) (devices_seen clock' words'' link' feed' starts' faults') (outs_seen g.tried g.faults outs) (outs_seen g.tried g.faults ending.outs) (views_of ending.views) (report_of end turns ending)
+          → Serves settings plan (devices_seen clock words link feed starts faults) (devices_seen clock' words'' link' feed' starts' faults') control control' (outs_seen g.tried g.faults outs) (outs_seen g.tried g.faults ending.outs) (views_of ending.views) (report_of end turns ending)
       serves_by faults faults' same slots =
           let are = are_served settings outs ending.outs given.jobs (slots_in server) finishes.left_views (views_of ending.views) ending.outs_sent ending.outs_unsent finishes.left given.at_slots outs_were slots in record {
             run = run_of;
@@ -242,7 +248,8 @@ module _ {O : Type 0} {g : Ghosts O} {T : Type 0} where
             words = AppendsAll-then words.given words'.given words''.given drawn (words_drawn (turns_of run_of)) gave runs.does.words;
             link = runs.does.link;
             feed = runs.does.feed;
-            started = starts_all plan end runs.last runs.whole runs.cut (length outs) threads starts starts' some runs.ended mode number all_started idle;
+            asked = asked;
+            started = starts_all plan end runs.rounds runs.last runs.whole runs.cut (length outs) threads starts starts' some runs.ended mode number all_started idle;
             link_sent = runs.does.answered.more;
             link_unsent = runs.does.answered.missed;
             link_tried = tried;
@@ -264,12 +271,12 @@ module _ {O : Type 0} {g : Ghosts O} {T : Type 0} where
             link_cause = runs.causes.link;
             feed_cause = runs.causes.feed;
             words_cause = subst (λ (count : ℕ). IsCauseOf end WordsFault count words''.faults) quiet runs.causes.words;
-            start_cause = ((λ is. absurd (no_spawn plan end (length runs.whole) runs.last runs.cut runs.ended is)), (λ other. same));
+            start_cause = ((λ is. absurd (no_spawn plan end (length runs.whole) runs.rounds runs.last runs.cut runs.ended is)), (λ other. same));
           }
 
     -- a run that was ended
     pub serves_run : (faults faults' : ℕ) → faults' ≡ faults
-        → ∥ Serves settings plan (devices_seen clock words link feed starts faults) (devices_seen clock' words'' link' feed' starts' faults') (outs_seen g.tried g.faults outs) (outs_seen g.tried g.faults ending.outs) (views_of ending.views) (report_of end turns ending) ∥₁
+        → ∥ Serves settings plan (devices_seen clock words link feed starts faults) (devices_seen clock' words'' link' feed' starts' faults') control control' (outs_seen g.tried g.faults outs) (outs_seen g.tried g.faults ending.outs) (views_of ending.views) (report_of end turns ending) ∥₁
     serves_run faults faults' same =
         let left = finishes.left in
         let firsts = subst (AreStarts settings (book_of start.publisher)) (sym (ap starts_in left.slots_are ∙ runs.does.happens.same.same_starts)) at.starts in

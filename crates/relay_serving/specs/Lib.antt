@@ -1,3 +1,6 @@
+pub mod Asked
+pub mod AskingServers
+pub mod Controls
 pub mod Counting
 pub mod Courses
 pub mod Devices
@@ -6,8 +9,11 @@ pub mod Ending
 pub mod Events
 pub mod GivenOut
 pub mod Happenings
+pub mod OutcomeWords
 pub mod Plans
+pub mod Replies
 pub mod Reports
+pub mod Rounds
 pub mod Runs
 pub mod Sending
 pub mod Servers

@@ -1,7 +1,7 @@
 -- How a run of a serving relay may go.
-use Rattle.std.specs.{Prelude.{◌≡◌, ◌⊎◌, ℕ, ◌<◌, true, List, [], ◌∷◌, ◌++◌, length, map, Option, None, Some}, List.{flat_map}}
+use Rattle.std.specs.{Prelude.{◌≡◌, ◌⊎◌, ℕ, ◌<◌, ◌≤◌, true, false, List, [], ◌∷◌, ◌++◌, length, map, Option, None, Some}, List.{flat_map, list_any}}
 use Rattle.amt_ports.specs.{declared.{feed.FeedAnswer.{FeedAnswer}, link.LinkAnswer.{LinkAnswer}, end.End.{End, TheVariants.{Turns, Closed, LinkFault, FeedFault, WordsFault, SpawnFault, Memory}}}, Bursts.{IsBegun, IsClosed}}
-use Rattle.relay_serving.specs.{declared.plan.ServePlan.{ServePlan}, Turns.{AreWhole, HasBegun, HasHeard, Progress, Publishing, Ahead, Turn, from_feed, from_link, is_due, moment_of_turn, no_progress}}
+use Rattle.relay_serving.specs.{Asked.{Round, is_stopped}, declared.plan.ServePlan.{ServePlan}, Turns.{AreWhole, HasBegun, HasHeard, Progress, Publishing, Ahead, Turn, from_feed, from_link, is_due, moment_of_turn, no_progress}}
 
 -- the feed was not asked, and so far went the publishing
 abbrev pub IsUnfed : Publishing → Turn → Type 0
@@ -32,11 +32,13 @@ IsCut LinkFault rotate progress turn = HasBegun rotate progress turn × IsBegun 
 IsCut FeedFault rotate progress turn = HasHeard rotate progress turn × IsBegun from_feed turn.fed
 IsCut Memory rotate progress turn = ⊥
 
--- the words of the first secret, the whole turns, and the one in which the run ended, if it is not whole
+-- the words of the first secret, the whole turns, the one in which the run ended, if it is not whole, and the lines that
+-- came after the whole turns, where there is a control
 pub record Run : Type 0 where
   pub first : List ℕ
   pub whole : List Turn
   pub cut : Option Turn
+  pub rounds : List Round
 
 abbrev pub with_cut : List Turn → Option Turn → List Turn
 with_cut whole None = whole
@@ -45,17 +47,27 @@ with_cut whole (Some turn) = whole ++ turn ∷ []
 abbrev pub turns_of : Run → List Turn
 turns_of run = with_cut run.whole run.cut
 
--- all turns are done, or this one isn't whole
-abbrev pub HasEnded : ServePlan → End → ℕ → Progress → Option Turn → Type 0
-HasEnded plan end done last None = (end ≡ Turns) × (done ≡ plan.turns)
-HasEnded plan end done last (Some turn) = (done < plan.turns) × IsCut end plan.rotate_ms last turn
+-- nobody asked in these rounds that the run ends
+abbrev pub GoOn : List Round → Type 0
+GoOn rounds = list_any is_stopped rounds ≡ false
+
+-- all turns are done, or in the last round, and in none before, somebody asked that the run ends
+pub data HasDone (plan : ServePlan) (done : ℕ) (rounds : List Round) : Type 0 where
+  all_turns : done ≡ plan.turns → GoOn rounds → HasDone plan done rounds
+  stopped : (earlier : List Round) (last : Round) → rounds ≡ earlier ++ last ∷ [] → GoOn earlier → is_stopped last ≡ true → 0 < done → done ≤ plan.turns
+      → HasDone plan done rounds
+
+-- the run is done with its turns, or this one isn't whole
+abbrev pub HasEnded : ServePlan → End → ℕ → List Round → Progress → Option Turn → Type 0
+HasEnded plan end done rounds last None = (end ≡ Turns) × HasDone plan done rounds
+HasEnded plan end done rounds last (Some turn) = (done < plan.turns) × IsCut end plan.rotate_ms last turn × GoOn rounds
 
 -- how a run may go: the first secret lacks words; it has them and nothing was started; or the turns began
 pub data MayGo (plan : ServePlan) (end : End) (run : Run) : Type 0 where
-  without_secret : length run.first < 4 → end ≡ WordsFault → run.whole ≡ [] → run.cut ≡ None → MayGo plan end run
-  unstarted : length run.first ≡ 4 → (end ≡ Memory) ⊎ (end ≡ SpawnFault) → run.whole ≡ [] → run.cut ≡ None → MayGo plan end run
+  without_secret : length run.first < 4 → end ≡ WordsFault → run.whole ≡ [] → run.cut ≡ None → run.rounds ≡ [] → MayGo plan end run
+  unstarted : length run.first ≡ 4 → (end ≡ Memory) ⊎ (end ≡ SpawnFault) → run.whole ≡ [] → run.cut ≡ None → run.rounds ≡ [] → MayGo plan end run
   served : (last : Progress) → length run.first ≡ 4 → AreWhole plan.rotate_ms no_progress run.whole last
-      → HasEnded plan end (length run.whole) last run.cut → MayGo plan end run
+      → HasEnded plan end (length run.whole) run.rounds last run.cut → MayGo plan end run
 
 -- the words that were drawn in turns, and the answers of link and feed, in order
 abbrev pub moments_given : List Turn → List ℕ

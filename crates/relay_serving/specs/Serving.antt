@@ -7,7 +7,7 @@ use Rattle.published_table.specs.{Lists.{BeginsWith, BeginsWithEach}, Views.{see
 use Rattle.response_mac.specs.declared.secret.Secret.{Secret}
 use Rattle.relay_machine.specs.{Published.{published_log}, Settings.{table_settings_of}, declared.settings.Settings.{Settings}}
 use Rattle.replication_workers.specs.{Jobs.{Handled}, Starting.{HaveStarted}, declared.job.Job.{Job}}
-use Rattle.relay_serving.specs.{Counting.{AreCounted, is_late, starved_in}, Devices.{Devices}, Events.{events_of, first_of, happenings_from, happenings_of, published_events}, Happenings.{events_among, published_events_among}}
+use Rattle.relay_serving.specs.{Asked.{refused_in}, Controls.{ControlSeen}, Rounds.{ControlServes}, Counting.{AreCounted, is_late, starved_in}, Devices.{Devices}, Events.{events_of, first_of, happenings_from, happenings_of, published_events}, Happenings.{events_among, published_events_among}}
 use Rattle.relay_serving.specs.{Runs.{MayGo, Run, feed_answers, link_answers, moments_given, turns_of, words_drawn}, Sending.{answers_after, due_of, dues_after}, GivenOut.{jobs_at}, Starting.{LosesOne}, Turns.{Done, Refused, Turn}, Views.{is_apart}, declared.plan.{ServePlan.{ServePlan}, ServeReport.{ServeReport}}}
 
 -- One slot: its out before and after, the jobs that it was given, the logs by which it found their receivers,
@@ -114,7 +114,7 @@ pub record StartsWorkers (workers : ℕ) (turns : List Turn) (end : End) (before
 
 -- A whole run: the devices gave exactly the answers of its turns; the link tried exactly the answers to its
 -- events, in order; and so on.
-pub record Serves (settings : Settings) (plan : ServePlan) (before after : Devices) (outs outs' : List OutSeen) (views : List View) (report : ServeReport) : Type 0 where
+pub record Serves (settings : Settings) (plan : ServePlan) (before after : Devices) (control control' : Option ControlSeen) (outs outs' : List OutSeen) (views : List View) (report : ServeReport) : Type 0 where
   pub run : Run
   pub goes : MayGo plan report.end run
   -- the devices' answers
@@ -122,6 +122,8 @@ pub record Serves (settings : Settings) (plan : ServePlan) (before after : Devic
   pub words : AppendsAll before.words.given after.words.given (run.first ++ words_drawn (turns_of run))
   pub link : AnswersAll LinkClosed before.link.coming after.link.coming (link_answers (turns_of run))
   pub feed : AnswersAll FeedClosed before.feed.coming after.feed.coming (feed_answers (turns_of run))
+  -- the lines after each whole turn, and the answers to them
+  pub asked : ControlServes settings (first_of run) plan.workers control control' run.whole run.rounds
   -- the workers
   pub started : StartsWorkers plan.workers (turns_of run) report.end before.starts after.starts
   -- what was sent
@@ -138,7 +140,7 @@ pub record Serves (settings : Settings) (plan : ServePlan) (before after : Devic
   pub counted : AreCounted settings (first_of run) (events_of run) report.datagrams report.packets report.updated report.torn
   pub sent_are : report.sent ≡ link_sent + outs_sent
   pub unsent_are : report.unsent ≡ link_unsent + outs_unsent
-  pub starved_are : report.starved ≡ sum_by starved_in (turns_of run)
+  pub starved_are : report.starved ≡ sum_by starved_in (turns_of run) + sum_by refused_in run.rounds
   pub late_are : report.late ≡ count_by is_late (turns_of run)
   pub late_owed : AreOwedLate settings (first_of run) (turns_of run)
   -- the causes

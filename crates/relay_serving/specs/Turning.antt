@@ -1,7 +1,7 @@
 -- What one turn does, and all turns of a run.
-use Rattle.std.specs.Prelude.{◌≡◌, ◌≢◌, ℕ, List, [], ◌∷◌, length, Option, Result, Ok, Err, IsOk}
+use Rattle.std.specs.Prelude.{◌≡◌, ◌≢◌, ℕ, List, [], ◌∷◌, length, sum_by, Option, Result, Ok, Err, IsOk}
 use Rattle.amt_ports.specs.{declared.{out_link.OutLink.{Ghosts}, end.End.{End, TheVariants.{LinkFault, FeedFault, WordsFault}}}, EndCauses.{IsCauseOf, IsCausedBy}}
-use Rattle.relay_serving.specs.{Devices.{Devices}, Runs.{HasEnded, IsCut, with_cut}, Servers.{first_in, owing_in, settings_in}, Serving.{AreOwedLate}, Traces.{Does, World, in_turns}, Turns.{AreWhole, IsWhole, Progress, Refused, Turn, after_turn, no_progress}, declared.plan.ServePlan.{ServePlan}}
+use Rattle.relay_serving.specs.{Asked.{Round, refused_in}, AskingServers.{in_turns_refusing}, Controls.{ControlSeen}, Rounds.{ControlServes}, Devices.{Devices}, Runs.{HasEnded, IsCut, with_cut}, Servers.{first_in, owing_in, settings_in}, Serving.{AreOwedLate}, Traces.{Does, World, in_turns}, Turns.{AreWhole, IsWhole, Progress, Refused, Turn, after_turn, no_progress}, declared.plan.ServePlan.{ServePlan}}
 
 -- the turn is whole, or the run ended in it
 abbrev pub IsTurnBy : Result (Unit {0}) End → ℕ → Progress → Turn → Type 0
@@ -30,14 +30,16 @@ module _ {O : Type 0} {g : Ghosts O} {T : Type 0} where
     pub is_turn : IsTurnBy result rotate progress turn
     pub progress_is : IsOk result → progress' ≡ after_turn rotate progress turn
 
-  -- all turns of a run
-  pub record RunsSo (plan : ServePlan) (before after : World O g T) (end : End) (done : ℕ) : Type 0 where
+  -- all turns of a run, and what was asked after each
+  pub record RunsSo (plan : ServePlan) (before after : World O g T) (control control' : Option ControlSeen) (end : End) (done : ℕ) : Type 0 where
     pub whole : List Turn
     pub cut : Option Turn
     pub last : Progress
-    pub does : Does (in_turns 0 (with_cut whole cut)) before after
+    pub rounds : List Round
+    pub does : Does (in_turns_refusing 0 (with_cut whole cut) (sum_by refused_in rounds)) before after
+    pub asked : ControlServes (settings_in before.server) (first_in before.server) plan.workers control control' whole rounds
     pub causes : EndsIn end before.devices after.devices
     pub late_owed : AreOwedLate (settings_in before.server) (first_in before.server) (with_cut whole cut)
     pub are_whole : AreWhole plan.rotate_ms no_progress whole last
-    pub ended : HasEnded plan end (length whole) last cut
+    pub ended : HasEnded plan end (length whole) rounds last cut
     pub done_is : done ≡ length whole

@@ -8,8 +8,12 @@
 //! Standard: RFC 7450, sections 4.1.3 and 5.3.
 #![tactic(auto)]
 
+mod control;
 mod counts;
 mod course;
+mod mem_copies;
+mod numbers;
+mod outcomes;
 mod plan;
 mod renewal;
 mod secret;
@@ -17,5 +21,7 @@ mod server;
 mod serving;
 
 pub use amt_ports::End;
+pub use control::{Control, Copies, CopyCount};
+pub use mem_copies::MemCopies;
 pub use plan::{ServePlan, ServeReport, Served};
 pub use serving::serve_relay;

@@ -4,8 +4,9 @@ ghost use Rattle.std.specs.Prelude.{◌≡◌, ◌≤◌, ◌<◌, ◌+◌, ◌^
 ghost use Rattle.published_table.specs.Views.{room_of, views_of};
 ghost use Rattle.relay_machine.specs.Settings.{AreLawfulSettings};
 ghost use Rattle.amt_ports.specs.Devices.{WaitsBriefly, feed_at, link_at, words_at};
-ghost use Rattle.relay_serving.specs.{Devices.{devices_seen, outs_seen}, Plans.{IsLawfulPlan}, Reports.{report_of, unused_report}, Serving.{Serves}};
+ghost use Rattle.relay_serving.specs.{Controls.{controls_at}, Devices.{devices_seen, outs_seen}, Plans.{IsLawfulPlan}, Reports.{report_of, unused_report}, Serving.{Serves}};
 
+use crate::control::{Control, Copies};
 use crate::plan::{ServePlan, ServeReport, Served};
 use crate::secret::draw_secret;
 use crate::server::{Ending, NotStarted, Server};
@@ -108,6 +109,9 @@ impl<O> Served<O> {
 /// most 64 times; publishes what is owed; and takes what the feed has in the same way, giving each packet to
 /// the slot of its source and group. With no workers in the plan one slot copies in the turns' own thread.
 ///
+/// After each whole turn the lines that came to the control, where there is one, are answered to whoever sent them, at
+/// most 64, without a wait; `stop` ends the run then. A control that fails or is closed ends nothing.
+///
 /// Out of memory the run ends before its first turn alone. In a turn it goes on: what memory refuses is
 /// counted and changes nothing, and what a refused publishing leaves owed goes first at the next one. At the
 /// end of a run the workers are stopped and waited for, and the outs come back.
@@ -117,6 +121,8 @@ pub fn serve_relay<
     C: Clock,
     W: Words,
     O: OutLink + Drop,
+    K: Link,
+    N: Copies,
     R: Wait,
     P: Spawner<Worker<O>>,
 >(
@@ -130,6 +136,7 @@ pub fn serve_relay<
     words: &mut W,
     outs: Outs<O>,
     spawner: &mut P,
+    control: &mut Option<Control<K, N>>,
 ) -> Served<O>
     requires settings { AreLawfulSettings settings }
     requires plan { IsLawfulPlan plan.now }
@@ -137,6 +144,7 @@ pub fn serve_relay<
     ensures serves { ∥ Serves settings plan.now
         (devices_seen (C.given clock.old) (words_at W.Words words.old) (link_at L.Link link.old) (feed_at F.Feed feed.old) (P.starts spawner.old) (P.faults spawner.old))
         (devices_seen (C.given clock.new) (words_at W.Words words.new) (link_at L.Link link.new) (feed_at F.Feed feed.new) (P.starts spawner.new) (P.faults spawner.new))
+        (controls_at K.Link N.Copies control.old) (controls_at K.Link N.Copies control.new)
         (outs_seen O.tried O.faults outs) (outs_seen O.tried O.faults result.outs)
         (views_of result.views) result.report ∥₁ }
 
@@ -163,6 +171,7 @@ pub fn serve_relay<
         words,
         link,
         feed,
+        control,
         room.buf.as_mut_slice(),
     );
     let ending = server.finish(rt, spawner, room.turned, room.asked);

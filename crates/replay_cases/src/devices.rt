@@ -20,14 +20,38 @@ use std::thread::Threads;
 pub type Spawner<'a, R> = ListedSpawner<&'a R, Starter<'a, R>>;
 
 /// Where the case's set of devices is opened.
-pub type Sets<'a, R> =
-    MemLive<MemLink, MemFeed, MemClock, MemWords, MemOut, Spawner<'a, R>, MemLink, MemCopies>;
+pub type Sets<'a, R> = MemLive<
+    MemLink,
+    MemFeed,
+    MemClock,
+    MemWords,
+    MemOut,
+    Spawner<'a, R>,
+    MemLink,
+    MemCopies,
+>;
 
-pub type Set<'a, R> =
-    DeviceSet<MemLink, MemFeed, MemClock, MemWords, MemOut, Spawner<'a, R>, MemLink, MemCopies>;
+pub type Set<'a, R> = DeviceSet<
+    MemLink,
+    MemFeed,
+    MemClock,
+    MemWords,
+    MemOut,
+    Spawner<'a, R>,
+    MemLink,
+    MemCopies,
+>;
 
-type OfRelay<'a, R> =
-    RelayDevices<MemLink, MemFeed, MemClock, MemWords, MemOut, Spawner<'a, R>, MemLink, MemCopies>;
+type OfRelay<'a, R> = RelayDevices<
+    MemLink,
+    MemFeed,
+    MemClock,
+    MemWords,
+    MemOut,
+    Spawner<'a, R>,
+    MemLink,
+    MemCopies,
+>;
 
 type OfGateway = GatewayDevices<MemLink, MemFeed, MemOut, MemClock, MemWords>;
 

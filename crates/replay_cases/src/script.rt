@@ -83,10 +83,7 @@ fn read_asking<'a>(rest: &'a str) -> Option<Event<'a>> {
 // `SENT UNSENT`.
 fn read_copies<'a>(rest: &'a str) -> Option<Event<'a>> {
     let (sent, unsent) = rest.split_once(' ')?;
-    Some(Event::Copies(
-        sent.parse::<u64>().ok()?,
-        unsent.parse::<u64>().ok()?,
-    ))
+    Some(Event::Copies(sent.parse::<u64>().ok()?, unsent.parse::<u64>().ok()?))
 }
 
 fn read_closing<'a>(device: &str) -> Option<Event<'a>> {

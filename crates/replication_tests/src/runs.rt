@@ -3,11 +3,11 @@
 use crate::devices::{Packets, Ticks, TwoUpdates};
 use crate::outs::{Starter, WaitingOut, outs_of};
 use crate::packets::{is_copy, slot_of};
-use amt_ports::{ListedSpawner, MemWords, Spawner, ThreadSpawner};
+use amt_ports::{ListedSpawner, MemLink, MemWords, Spawner, ThreadSpawner};
 use amt_values::Ip;
 use published_table::Views;
 use relay_machine::Settings;
-use relay_serving::{End, ServePlan, ServeReport, Served, serve_relay};
+use relay_serving::{Control, End, MemCopies, ServePlan, ServeReport, Served, serve_relay};
 use replication_workers::Worker;
 use std::alloc::Global;
 use std::process::Abort;
@@ -85,6 +85,7 @@ fn serve<R: Wait + Abort, P: Spawner<Worker<WaitingOut>>>(
         &mut MemWords::new(alloc, Vec::new(alloc)),
         outs,
         spawner,
+        &mut None::<Control<MemLink, MemCopies>>,
     )
 }
 

@@ -1,6 +1,6 @@
 -- What octets are taken for.
 use Rattle.std.proofs.Common.{◌≡◌, ◌⊎◌, ℕ, ◌<◌, ◌≤◌, List, length, Option, Some, Result, Ok, Err, IfOk, IfErr, IsErrOf, inl, inr, refl, sym, subst, ap, arith, ◌∙◌}
-use Rattle.amt_config.specs.declared.fault.ConfigFault.{ConfigFault, TheVariants.{Memory as ConfigMemory, NotToml, Unknown, Missing, Kind, Address, Range}}
+use Rattle.amt_config.specs.declared.fault.ConfigFault.{ConfigFault, TheVariants.{Memory as ConfigMemory, NotToml, Unknown, Missing, Kind, Address, Range, Loopback}}
 use Rattle.amt_ports.specs.Contents.{IsContent}
 use Rattle.amt_values.specs.declared.bytes.TheConstants.{INPUT_LIMIT}
 use Rattle.serving_commands.specs.{Kinds.{SettingsKind}, Reading.{BlamesNoFile, Decides, IsConfigured, IsFaultIn, IsFaultOfReading, IsOverlong, IsUnread, TellsFault, fault_by}, declared.fault.ServingFault.{ServingFault, TheVariants.{Memory, NotOpened, NotRead, Settings, TooLong}}}
@@ -18,6 +18,7 @@ told_as (Missing key) fault by = inl (ap Err by)
 told_as (Kind key) fault by = inl (ap Err by)
 told_as (Address key) fault by = inl (ap Err by)
 told_as (Range key) fault by = inl (ap Err by)
+told_as (Loopback key) fault by = inl (ap Err by)
 
 -- an answer's fault is one of those that it may be
 pub fault_is : {T : Type 0} (Is : ServingFault → Type 0) (result : Result T ServingFault) (fault : ServingFault) → IfErr result Is → IsErrOf result fault → Is fault
@@ -100,6 +101,8 @@ module _ {S : Type 0} (kind : SettingsKind S) where
   fault_in_by octets (Address key) (inr memory) = absurd (cc memory)
   fault_in_by octets (Range key) (inl is) = (is, λ memory. cc memory)
   fault_in_by octets (Range key) (inr memory) = absurd (cc memory)
+  fault_in_by octets (Loopback key) (inl is) = (is, λ memory. cc memory)
+  fault_in_by octets (Loopback key) (inr memory) = absurd (cc memory)
 
   -- a fault that is told is a fault of the octets, unless memory ran out
   pub told_is : (octets : List ℕ) (told : ConfigFault) (fault : ServingFault) → fault ≡ fault_by told → kind.IsFault told octets ⊎ (told ≡ ConfigMemory)

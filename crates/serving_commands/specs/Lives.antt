@@ -1,6 +1,7 @@
 -- What a place tells where devices are opened, and what each of its devices does.
 use Rattle.std.specs.Prelude.{ℕ, Option}
-use Rattle.serving_commands.specs.declared.{control.Copies.{Ghosts as CopiesTell}, opening.live.Live.{Ghosts as LiveTells}}
+use Rattle.serving_commands.specs.declared.opening.live.Live.{Ghosts as LiveTells}
+use Rattle.relay_serving.specs.declared.control.Copies.{Ghosts as CopiesTell}
 use Rattle.amt_ports.specs.declared.{clock.Clock.{Ghosts as ClockTells}, feed.Feed.{Ghosts as FeedTells}, link.Link.{Ghosts as LinkTells}, out_link.OutLink.{Ghosts as OutTells}, words.Words.{Ghosts as WordsTells}}
 
 -- What a place tells, and what each device of its sets does. Of what starts workers, giving a T for each, that is

@@ -1,5 +1,5 @@
 -- How devices are opened for a run.
-use Rattle.std.specs.Prelude.{ℕ, List, None, Option, max}
+use Rattle.std.specs.Prelude.{ℕ, List, Option, max}
 use Rattle.amt_config.specs.declared.config.RelayConfig.{RelayConfig}
 use Rattle.serving_commands.specs.{declared.opening.{asked.Opening.{Opening, TheVariants.{Relay as AskedRelay}}, live.Live.{Ghosts as LiveTells}}, RelayPlans.{plan_by}, Kinds.{relay_file}, Openings.{IsRefusedFor}}
 use Rattle.relay_serving.specs.declared.plan.ServePlan.{ServePlan}
@@ -8,9 +8,9 @@ use Rattle.relay_serving.specs.declared.plan.ServePlan.{ServePlan}
 abbrev pub slots_of : ServePlan → ℕ
 slots_of plan = max plan.workers 1
 
--- what the run of a plan asks for: the link and the feed are those of the settings
+-- what the run of a plan asks for: the link, the feed and the control socket, if one is wanted, are those of the settings
 abbrev pub opening_by : RelayConfig → ServePlan → Opening
-opening_by config plan = AskedRelay config.listen config.feed None (slots_of plan)
+opening_by config plan = AskedRelay config.listen config.feed config.control (slots_of plan)
 
 -- what the settings and the command ask for was refused
 abbrev pub IsRefusedBy : {V L F C W O P K N T : Type 0} → LiveTells V L F C W O P K N T → Option (List ℕ) → ℕ → Option ℕ → V → V → Type 0

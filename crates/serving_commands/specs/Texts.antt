@@ -35,4 +35,5 @@ settings_line (faults.Missing key) = key_line (codes "missing") key
 settings_line (faults.Kind key) = key_line (codes "kind") key
 settings_line (faults.Address key) = key_line (codes "address") key
 settings_line (faults.Range key) = key_line (codes "range") key
+settings_line (faults.Loopback key) = key_line (codes "loopback") key
 settings_line faults.Memory = []

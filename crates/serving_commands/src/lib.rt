@@ -7,7 +7,6 @@
 //! Standard: none of its own; the texts stand in docs/FORMATS.md.
 #![tactic(auto)]
 
-mod control;
 mod fault;
 pub mod gateway;
 mod kinds;
@@ -17,12 +16,11 @@ pub mod relay;
 mod report;
 mod settings;
 
-pub use control::{Control, Copies, CopyCount};
 pub use fault::ServingFault;
 pub use kinds::FromSettings;
 pub use opening::{
-    CountedOut, DeviceSet, GatewayDevices, HostLive, Live, MemLive, OpenFault, Opening, RelayDevices,
-    SharedCopies, WorkerThreads,
+    CountedOut, DeviceSet, GatewayDevices, HostLive, Live, MemLive, OpenFault, Opening,
+    RelayDevices, SharedCopies, WorkerThreads,
 };
 pub use reading::read_settings;
 pub use report::report_head;

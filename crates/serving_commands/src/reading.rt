@@ -43,6 +43,7 @@ fn fault_by(fault: ConfigFault) -> ServingFault
         ConfigFault::Kind(key) => ServingFault::Settings(ConfigFault::Kind(key)),
         ConfigFault::Address(key) => ServingFault::Settings(ConfigFault::Address(key)),
         ConfigFault::Range(key) => ServingFault::Settings(ConfigFault::Range(key)),
+        ConfigFault::Loopback(key) => ServingFault::Settings(ConfigFault::Loopback(key)),
         ConfigFault::Memory => ServingFault::Memory,
     }
 }

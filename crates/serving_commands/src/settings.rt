@@ -30,6 +30,7 @@ pub fn settings_line(alloc: Global, fault: &ConfigFault) -> Result<Bytes, AllocE
         ConfigFault::Kind(key) => key_line(alloc, "kind", key),
         ConfigFault::Address(key) => key_line(alloc, "address", key),
         ConfigFault::Range(key) => key_line(alloc, "range", key),
+        ConfigFault::Loopback(key) => key_line(alloc, "loopback", key),
         ConfigFault::Memory => Ok(Bytes::new(alloc)),
     }
 }

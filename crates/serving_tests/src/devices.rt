@@ -75,7 +75,7 @@ fn link_answer(alloc: Global, from: Peer, answer: &Answer) -> Result<LinkAnswer,
     }
 }
 
-fn link_answers(
+pub fn link_answers(
     alloc: Global,
     from: Peer,
     list: &[Answer],

@@ -3,10 +3,10 @@ ghost use Rattle.relay_machine.specs.Settings.{AreLawfulSettings};
 ghost use Rattle.relay_serving.specs.Plans.{IsLawfulPlan};
 
 use crate::devices::{Answer, Devices, Script};
-use amt_ports::{Feed, Link, OutLink, Spawner};
+use amt_ports::{Feed, Link, MemLink, OutLink, Spawner};
 use amt_values::{Ip, Peer};
 use relay_machine::Settings;
-use relay_serving::{ServePlan, Served, serve_relay};
+use relay_serving::{Control, Copies, MemCopies, ServePlan, Served, serve_relay};
 use replication_workers::{Outs, Worker};
 use std::alloc::Global;
 use std::process::Abort;
@@ -72,6 +72,28 @@ pub fn serve<R: Wait + Abort, L: Link, F: Feed, O: OutLink + Drop, P: Spawner<Wo
     outs: Outs<O>,
     spawner: &mut P,
 ) -> Served<O> {
+    let mut control = None::<Control<MemLink, MemCopies>>;
+    serve_asked(rt, alloc, plan, devices, outs, spawner, &mut control)
+}
+
+/// The same, of a relay that may be asked.
+pub fn serve_asked<
+    R: Wait + Abort,
+    L: Link,
+    F: Feed,
+    O: OutLink + Drop,
+    K: Link,
+    N: Copies,
+    P: Spawner<Worker<O>>,
+>(
+    rt: &R,
+    alloc: Global,
+    plan: ServePlan,
+    devices: &mut Devices<L, F>,
+    outs: Outs<O>,
+    spawner: &mut P,
+    control: &mut Option<Control<K, N>>,
+) -> Served<O> {
     assert_lawful(rt, &plan);
     assert_eq!(rt; outs.len(), plan.workers.max(1) as usize);
     let Devices {
@@ -91,5 +113,6 @@ pub fn serve<R: Wait + Abort, L: Link, F: Feed, O: OutLink + Drop, P: Spawner<Wo
         words,
         outs,
         spawner,
+        control,
     )
 }

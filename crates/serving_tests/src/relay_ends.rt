@@ -111,7 +111,7 @@ fn report_of(end: End, counts: Counts) -> ServeReport {
     }
 }
 
-fn two_outs(alloc: Global) -> Result<Outs<MemOut>, AllocError> {
+pub fn two_outs(alloc: Global) -> Result<Outs<MemOut>, AllocError> {
     let mut outs = Vec::with_capacity(alloc, 2)?;
     outs.push(MemOut::new(alloc))?;
     outs.push(MemOut::new(alloc))?;

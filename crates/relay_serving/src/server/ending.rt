@@ -100,6 +100,7 @@ impl<O: OutLink + Drop, T> Server<O, T> {
             publisher,
             dispatcher,
             counts,
+            outcomes: _outcomes,
             first: _,
             course: _course,
         } = self;

@@ -6,7 +6,7 @@ ghost use Rattle.relay_serving.specs.{Counting.{is_packet, with_outcome}, Server
 use super::Server;
 use amt_ports::OutLink;
 use amt_values::Moment;
-use relay_machine::{Event, Sends, Step};
+use relay_machine::{Event, Outcome, Sends, Step};
 use response_mac::Secret;
 use std::alloc::{AllocError, Global};
 
@@ -32,6 +32,7 @@ impl<O: OutLink + Drop, T> Server<O, T> {
         } = self.relay.step(alloc, event)?;
         self.course = self.course.then(event);
         self.counts.count(event, &outcome);
+        self.outcomes.count(&outcome);
         match change {
             Some(change) => self.publisher.take(change),
             None => {}
@@ -60,11 +61,15 @@ impl<O: OutLink + Drop, T> Server<O, T> {
 
     /// This secret is the current one from now on. It takes no memory.
     pub(crate) fn rotate(&mut self, alloc: Global, secret: Secret)
+        requires few { tally_in self.old < 2 ^ 50 }
         ensures takes { ServerDoes (taking (Rotate secret) 0) self.old self.new }
     {
         let event = Event::Rotate(secret);
         match self.relay.step(alloc, &event) {
-            Ok(_step) => self.course = self.course.then(&event),
+            Ok(_step) => {
+                self.course = self.course.then(&event);
+                self.outcomes.count(&Outcome::Rotated);
+            }
             // A secret takes no memory.
             Err(_) => unreachable!(),
         }

@@ -21,12 +21,14 @@ impl<O: OutLink + Drop, T> Server<O, T> {
     ) -> Result<(), AllocError>
         requires short { length packet.now ≤ 65535 }
         requires few { (counts_in self.old).packets < 2 ^ 46 }
+        requires tally { tally_in self.old < 2 ^ 50 }
         ensures takes { OnOk result (ServerDoes (taking (Packet packet.now) 1) self.old self.new) }
         ensures none { OnErr result (ServerDoes nothing self.old self.new) }
     {
         let packet = Bytes::copied(alloc, packet)?;
         self.course = self.course.fed(&packet);
         self.counts.count_packet();
+        self.outcomes.count_packet(packet.as_slice());
         let job = Job {
             packet,
             at: self.relay.now(),

@@ -9,6 +9,7 @@ ghost use Rattle.relay_serving.specs.{Devices.{outs_seen}, GivenOut.{starts_in, 
 use super::Server;
 use crate::counts::Counts;
 use crate::course::Course;
+use crate::outcomes::Outcomes;
 use amt_ports::{End, OutLink, Spawner};
 use published_table::{Publisher, Terms, Views};
 use relay_machine::{Relay, Settings};
@@ -265,6 +266,9 @@ impl<O: OutLink + Drop, T> Server<O, T> {
         let Ok(relay) = Relay::new(alloc, settings, first) else {
             return Err(NotStarted::memory(outs));
         };
+        let Ok(outcomes) = Outcomes::new(alloc, settings.packet_limit) else {
+            return Err(NotStarted::memory(outs));
+        };
         let Ok((publisher, views)) = Publisher::with_views(rt, alloc, outs.len() as u32, terms)
         else {
             return Err(NotStarted::memory(outs));
@@ -275,6 +279,7 @@ impl<O: OutLink + Drop, T> Server<O, T> {
                 publisher,
                 dispatcher,
                 counts: Counts::new(),
+                outcomes,
                 first: Snapshot::of(&first),
                 course: Course::new(),
             }),

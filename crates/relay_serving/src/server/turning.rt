@@ -1,9 +1,10 @@
 //! One turn of a running relay, and all of a run.
 ghost use Rattle.std.specs.Prelude.{◌≡◌, ◌≤◌, ◌<◌, ◌+◌, ◌^◌, [], length, None};
 ghost use Rattle.amt_ports.specs.Devices.{feed_at, link_at, words_at};
-ghost use Rattle.relay_serving.specs.{Counting.{no_counts}, Devices.{devices_seen}, Plans.{IsLawfulPlan}, Servers.{counts_in, happenings_in, tally_in}, Stages.{BeginsBy, progress_in}, Traces.{world}, Turning.{RunsSo, TurnsSo}};
+ghost use Rattle.relay_serving.specs.{Controls.{controls_at}, Counting.{no_counts}, Devices.{devices_seen}, Plans.{IsLawfulPlan}, Servers.{counts_in, happenings_in, tally_in}, Stages.{BeginsBy, progress_in}, Traces.{world}, Turning.{RunsSo, TurnsSo}};
 
 use super::Server;
+use crate::control::{Control, Copies};
 use crate::plan::ServePlan;
 use crate::renewal::Renewal;
 use crate::secret::draw_secret;
@@ -65,9 +66,9 @@ impl<O: OutLink + Drop, T> Server<O, T> {
         self.feed(rt, alloc, feed, buf)
     }
 
-    /// All turns of the plan, or those up to the one in which the run ended: why it ended, and how many turns
-    /// were whole.
-    pub(crate) fn run<C: Clock, W: Words, L: Link, F: Feed, R: Wait>(
+    /// All turns of the plan, or those up to the one in which the run ended, or after which somebody asked that it
+    /// ends: why it ended, and how many turns were whole.
+    pub(crate) fn run<C: Clock, W: Words, L: Link, F: Feed, K: Link, N: Copies, R: Wait>(
         &mut self,
         rt: &R,
         alloc: Global,
@@ -76,6 +77,7 @@ impl<O: OutLink + Drop, T> Server<O, T> {
         words: &mut W,
         link: &mut L,
         feed: &mut F,
+        control: &mut Option<Control<K, N>>,
         buf: &mut [u8],
     ) -> (End, u64)
         requires plan { IsLawfulPlan plan.now }
@@ -87,7 +89,8 @@ impl<O: OutLink + Drop, T> Server<O, T> {
             (world self.old (devices_seen (C.given clock.old) (words_at W.Words words.old) (link_at L.Link link.old) (feed_at F.Feed feed.old) None 0)
             (L.longest_wait link.old) (F.longest_wait feed.old) (length buf.old))
             (world self.new (devices_seen (C.given clock.new) (words_at W.Words words.new) (link_at L.Link link.new) (feed_at F.Feed feed.new) None 0)
-            (L.longest_wait link.new) (F.longest_wait feed.new) (length buf.new)) result.0 result.1 }
+            (L.longest_wait link.new) (F.longest_wait feed.new) (length buf.new))
+            (controls_at K.Link N.Copies control.old) (controls_at K.Link N.Copies control.new) result.0 result.1 }
     {
         let mut renewal = Renewal::new();
         for done in 0..plan.turns {
@@ -104,6 +107,9 @@ impl<O: OutLink + Drop, T> Server<O, T> {
             ) {
                 Ok(()) => {}
                 Err(end) => return (end, done),
+            }
+            if self.answer(alloc, plan.workers, done + 1, control, buf) {
+                return (End::Turns, done + 1);
             }
         }
         (End::Turns, plan.turns)

@@ -2,9 +2,9 @@
 ghost use Rattle.std.specs.Prelude.{◌≡◌, IfOk, IsSome, None, OnOk};
 ghost use Rattle.amt_ports.specs.{Causes.{HasCause}, Sends.{tried_send}, Told.{Appends}};
 
-use crate::control::{Copies, CopyCount};
 use amt_ports::{Failed, OutLink};
 use amt_values::Peer;
+use relay_serving::{Copies, CopyCount};
 use std::alloc::{AllocError, Global};
 use std::marker::Model;
 use std::sync::Arc;

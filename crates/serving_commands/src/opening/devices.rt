@@ -1,6 +1,6 @@
 //! The devices of a run, as one value.
 
-use crate::control::Control;
+use relay_serving::Control;
 use replication_workers::Outs;
 
 /// What a relay runs on: its link, its feed of packets, its clock and random words, one link out for each

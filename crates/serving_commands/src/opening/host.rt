@@ -2,7 +2,6 @@
 ghost use Rattle.std.specs.Prelude.{◌≡◌, ◌≤◌, IfOk, IsErrOf, None, is_some, length};
 ghost use Rattle.amt_ports.specs.Causes.{Rose};
 
-use crate::control::Control;
 use crate::opening::counted::{CountedOut, SharedCopies};
 use crate::opening::devices::{GatewayDevices, RelayDevices};
 use crate::opening::live::{Live, OpenFault};
@@ -11,6 +10,7 @@ use amt_ports::{
     UdpOut, open_control, open_sockets,
 };
 use amt_values::Peer;
+use relay_serving::Control;
 use replication_workers::{Outs, Worker, WorkerDone, start_worker};
 use std::alloc::Global;
 use std::fs;

@@ -3,11 +3,11 @@ ghost use Rattle.std.specs.Prelude.{◌≡◌, ◌≤◌, ℕ, IfOk, IsErrOf, Is
 ghost use Rattle.amt_ports.specs.{Causes.{Rose}, Told.{Appends}};
 ghost use Rattle.serving_commands.specs.{Sets.{HasRoom, TakesFirst, less_room, more_room}, declared.opening.{asked.Opening.{Opening as Asked, TheVariants.{Relay as AskedRelay, Gateway as AskedGateway}}, devices.DeviceSet.{DeviceSet as Set, TheVariants.{Relay as RelaySet, Gateway as GatewaySet}}}};
 
-use crate::control::Copies;
 use crate::opening::asked::Opening;
 use crate::opening::devices::{GatewayDevices, RelayDevices};
 use amt_ports::{Clock, Feed, Link, OutLink, Spawner, Words};
 use amt_values::Peer;
+use relay_serving::Copies;
 use replication_workers::Worker;
 
 /// Why devices were not opened.
@@ -61,7 +61,10 @@ pub trait Live {
         feed: &Peer,
         control: &Option<Peer>,
         slots: u32,
-    ) -> Result<RelayDevices<Self::L, Self::F, Self::C, Self::W, Self::O, Self::P, Self::K, Self::N>, OpenFault>
+    ) -> Result<
+        RelayDevices<Self::L, Self::F, Self::C, Self::W, Self::O, Self::P, Self::K, Self::N>,
+        OpenFault,
+    >
         ensures outs { IfOk result (λ devices. length devices.outs ≡ slots) }
         ensures control { IfOk result (λ devices. is_some devices.control ≡ is_some control.now) }
         ensures first { IfOk result (λ devices. TakesFirst (sets self.old) (sets self.new) (RelaySet devices)) }
@@ -81,7 +84,16 @@ pub trait Live {
     /// Takes back what a relay ran on. It takes no memory: the room was made at the opening.
     fn return_relay(
         &mut self,
-        devices: RelayDevices<Self::L, Self::F, Self::C, Self::W, Self::O, Self::P, Self::K, Self::N>,
+        devices: RelayDevices<
+            Self::L,
+            Self::F,
+            Self::C,
+            Self::W,
+            Self::O,
+            Self::P,
+            Self::K,
+            Self::N,
+        >,
     )
         requires { HasRoom (room self.old) }
         ensures returned { Appends (returned self.old) (returned self.new) (RelaySet devices) }

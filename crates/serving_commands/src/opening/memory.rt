@@ -3,13 +3,13 @@ ghost use Rattle.std.specs.Prelude.{◌≡◌, ◌≤◌, ◌<◌, ◌⊎◌, []
 ghost use Rattle.amt_ports.specs.{Causes.{HasCause, Rose, next_count}, Tally.{fresh_tally, with_call, with_fault}, Told.{Appends}};
 ghost use Rattle.serving_commands.specs.{MemLive.{with_room}, Sets.{HasRoom, TakesFirst, fits_gateway, fits_relay, is_as_asked, less_room, more_room}, declared.opening.{asked.Opening.TheVariants.{Relay as AskedRelay, Gateway as AskedGateway}, devices.DeviceSet.TheVariants.{Relay as RelaySet, Gateway as GatewaySet}}};
 
-use crate::control::Copies;
 use crate::opening::asked::{AskedLog, Opening};
 use crate::opening::devices::{DeviceSet, GatewayDevices, RelayDevices};
 use crate::opening::live::{Live, OpenFault};
 use crate::opening::returns::Returns;
 use amt_ports::{CallTally, Clock, Failed, Feed, Link, OutLink, Spawner, Words};
 use amt_values::Peer;
+use relay_serving::Copies;
 use replication_workers::Worker;
 use std::alloc::Global;
 use std::marker::Model;
@@ -35,7 +35,16 @@ impl<L, F, C, W, O, P, K, N> Model for MemLive<L, F, C, W, O, P, K, N> {
     ghost view = { λ live. record { sets = live.sets.items; asked = live.asked; returned = live.returned; calls = live.calls } };
 }
 
-impl<L: Drop, F: Drop, C: Drop, W: Drop, O: Drop, P: Drop, K: Drop, N: Drop> MemLive<L, F, C, W, O, P, K, N> {
+impl<L: Drop, F: Drop, C: Drop, W: Drop, O: Drop, P: Drop, K: Drop, N: Drop> MemLive<
+    L,
+    F,
+    C,
+    W,
+    O,
+    P,
+    K,
+    N,
+> {
     /// No opening fails while a set that fits it is to come.
     pub fn new(alloc: Global, sets: Vec<DeviceSet<L, F, C, W, O, P, K, N>>) -> Self
         ensures sets { result.sets ≡ sets.items }
@@ -48,7 +57,11 @@ impl<L: Drop, F: Drop, C: Drop, W: Drop, O: Drop, P: Drop, K: Drop, N: Drop> Mem
     }
 
     /// The openings of these numbers fail, counted from 1.
-    pub fn failing(alloc: Global, sets: Vec<DeviceSet<L, F, C, W, O, P, K, N>>, calls: Vec<u64>) -> Self
+    pub fn failing(
+        alloc: Global,
+        sets: Vec<DeviceSet<L, F, C, W, O, P, K, N>>,
+        calls: Vec<u64>,
+    ) -> Self
         ensures sets { result.sets ≡ sets.items }
         ensures asked { result.asked ≡ Some [] }
         ensures returned { result.returned.sets ≡ [] }

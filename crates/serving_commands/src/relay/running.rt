@@ -37,7 +37,7 @@ fn run_by<R: Wait, V: Live>(
         → V.faults live.new ≡ V.faults live.old }
 {
     let slots = plan.workers.max(1);
-    let devices = match live.open_relay(&config.listen, &config.feed, &None, slots) {
+    let devices = match live.open_relay(&config.listen, &config.feed, &config.control, slots) {
         Ok(devices) => devices,
         Err(fault) => return Err(fault),
     };
@@ -48,7 +48,7 @@ fn run_by<R: Wait, V: Live>(
         mut words,
         outs,
         mut spawner,
-        control,
+        mut control,
     } = devices;
     let Served {
         report,
@@ -65,6 +65,7 @@ fn run_by<R: Wait, V: Live>(
         &mut words,
         outs,
         &mut spawner,
+        &mut control,
     );
     live.return_relay(RelayDevices {
         link,

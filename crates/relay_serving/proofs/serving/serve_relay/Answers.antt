@@ -8,8 +8,8 @@ pub returns-in_default : goal.returns-in_default
 returns-in_default g c =
     let drawn = c.draw_secret.ensures.drawn in
     let seen = outs_seen g.O.OutLink.tried g.O.OutLink.faults in record {
-      serves = ∣ reported _ _ _ _ _ _ _ _ _ _ _ (ap seen c.unused.ensures.outs) c.unused.ensures.views c.unused.ensures.report
-          (serves_without_secret _ _ drawn.words _ _ _ _ _ _ _ _ drawn.given (few_words _ _ _ _ drawn c.in_default.is) (has_risen _ _ _ _ c.draw_secret.ensures.cause c.in_default.is)) ∣₁;
+      serves = ∣ reported _ _ _ _ _ _ _ _ _ _ _ _ _ (ap seen c.unused.ensures.outs) c.unused.ensures.views c.unused.ensures.report
+          (serves_without_secret _ _ _ drawn.words _ _ _ _ _ _ _ _ drawn.given (few_words _ _ _ _ drawn c.in_default.is) (has_risen _ _ _ _ c.draw_secret.ensures.cause c.in_default.is)) ∣₁;
       link_waits = no_waits _ _ refl;
       feed_waits = no_waits _ _ refl;
     }
@@ -18,8 +18,8 @@ pub returns-in_default-new : goal.returns-in_default-new
 returns-in_default-new g c =
     let drawn = c.draw_secret.ensures.drawn in
     let seen = outs_seen g.O.OutLink.tried g.O.OutLink.faults in record {
-      serves = ∣ reported _ _ _ _ _ _ _ _ _ _ _ (ap seen c.unused-in_default-new.ensures.outs) c.unused-in_default-new.ensures.views c.unused-in_default-new.ensures.report
-          (serves_unstarted _ _ _ drawn.words _ _ _ _ _ _ _ _ _ _ _ drawn.given (four_words _ _ _ _ drawn c.in-Ok.is).1 (is_quiet _ _ _ _ c.draw_secret.ensures.cause c.in-Ok.is) (refl, refl, refl) _ refl (λ _. refl)) ∣₁;
+      serves = ∣ reported _ _ _ _ _ _ _ _ _ _ _ _ _ (ap seen c.unused-in_default-new.ensures.outs) c.unused-in_default-new.ensures.views c.unused-in_default-new.ensures.report
+          (serves_unstarted _ _ _ _ drawn.words _ _ _ _ _ _ _ _ _ _ _ drawn.given (four_words _ _ _ _ drawn c.in-Ok.is).1 (is_quiet _ _ _ _ c.draw_secret.ensures.cause c.in-Ok.is) (refl, refl, refl) _ refl (λ _. refl)) ∣₁;
       link_waits = no_waits _ _ refl;
       feed_waits = no_waits _ _ refl;
     }
@@ -28,8 +28,8 @@ pub returns-in-Err : goal.returns-in-Err
 returns-in-Err g c =
     let drawn = c.draw_secret.ensures.drawn in
     let seen = outs_seen g.O.OutLink.tried g.O.OutLink.faults in record {
-      serves = ∣ reported _ _ _ _ _ _ _ _ _ _ _ (ap seen c.unused-in-Err.ensures.outs) c.unused-in-Err.ensures.views c.unused-in-Err.ensures.report
-          (serves_unstarted _ _ c.in-Err.field-0.end drawn.words _ _ _ _ _ _ _ _ _ _ (seen c.in-Err.field-0.outs) drawn.given (four_words _ _ _ _ drawn c.in-Ok.is).1 (is_quiet _ _ _ _ c.draw_secret.ensures.cause c.in-Ok.is)
+      serves = ∣ reported _ _ _ _ _ _ _ _ _ _ _ _ _ (ap seen c.unused-in-Err.ensures.outs) c.unused-in-Err.ensures.views c.unused-in-Err.ensures.report
+          (serves_unstarted _ _ _ c.in-Err.field-0.end drawn.words _ _ _ _ _ _ _ _ _ _ (seen c.in-Err.field-0.outs) drawn.given (four_words _ _ _ _ drawn c.in-Ok.is).1 (is_quiet _ _ _ _ c.draw_secret.ensures.cause c.in-Ok.is)
           c.in-Err.ensures.left _ refl c.in-Err.ensures.none_started) ∣₁;
       link_waits = no_waits _ _ refl;
       feed_waits = no_waits _ _ refl;
@@ -59,11 +59,11 @@ returns g c =
     let seen = outs_seen g.O.OutLink.tried g.O.OutLink.faults in record {
       serves = ∥∥₁_map
           (serves_run c.args.settings c.args.plan.now c.in-Ok.first c.args.outs _ drawn.words c.in-Ok-start.server c.run-end.new.self c.finish-ending.result c.run-end.result.0 c.run-end.result.1
-          _ _ _ _ _ _ _ _ _ four.0 four.1 drawn.given (is_quiet _ _ _ _ c.draw_secret.ensures.cause c.in-Ok.is) start.started _ _ _ _ _ _ c.run-end.ensures.runs
+          _ _ _ _ _ _ _ _ _ _ _ four.0 four.1 drawn.given (is_quiet _ _ _ _ c.draw_secret.ensures.cause c.in-Ok.is) start.started _ _ _ _ _ _ c.run-end.ensures.runs
           c.finish-ending.ensures.finishes c.requires.plan.some_turns c.requires.outs refl _ _
           (λ threads. subst (HaveStarted (length c.args.outs) (g.P.Spawner.starts c.args.spawner.now)) (sym c.finish-ending.ensures.starts) (start.workers threads))
           (λ idle. c.finish-ending.ensures.starts ∙ start.none_started idle) _ _ (c.finish-ending.ensures.faults ∙ start.quiet))
-          (λ serves. reported _ _ _ _ _ _ _ _ _ _ _ (ap seen c.of.ensures.outs) c.of.ensures.views c.of.ensures.report serves);
+          (λ serves. reported _ _ _ _ _ _ _ _ _ _ _ _ _ (ap seen c.of.ensures.outs) c.of.ensures.views c.of.ensures.report serves);
       link_waits = c.run-end.ensures.runs.does.link_waits;
       feed_waits = c.run-end.ensures.runs.does.feed_waits;
     }

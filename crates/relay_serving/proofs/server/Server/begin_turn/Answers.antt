@@ -1,8 +1,13 @@
-use Rattle.std.{proofs.Common.{[], ap, map, sym, subst, refl, ◌∙◌, arith}, specs.Prelude.{List, Some}}
+use Rattle.std.{proofs.Common.{◌≤◌, ◌+◌, [], ap, map, sym, subst, refl, ◌∙◌, arith}, specs.Prelude.{List, Some}}
 use Rattle.amt_ports.proofs.{EndCauses.{not_cause}, Told.{AppendsAll-none}}
 use Rattle.relay_machine.specs.declared.event.Event.{Event}
-use Rattle.relay_serving.{specs.{Happenings.{Took}, Traces.{ServerDoes, nothing}, Turns.{is_due, renewed_after, words_due}}, proofs.{Stages.{begins, rotation-few, rotation-four}, Traces.{Does-at, Does-none}}}
+use Rattle.relay_serving.{specs.{Happenings.{Took}, Servers.{tally_in}, Traces.{ServerDoes, nothing}, Turns.{is_due, renewed_after, words_due}}, proofs.{Stages.{begins, rotation-few, rotation-four}, Traces.{Does-at, Does-none, alone}}}
 use Rattle.relay_serving.proofs.server.Server.begin_turn.Goals as goal
+
+pub rotate-requires : goal.rotate-requires
+rotate-requires g c =
+    let few : tally_in c.pass_moment.new.self ≤ tally_in c.args.self.now + 1 = (c.pass_moment.ensures.passes.1 (alone c.args.self.now)).few in
+    record { few = omega (arith, few, c.requires.few) }
 
 pub returns-in-Err : goal.returns-in-Err
 returns-in-Err g c =

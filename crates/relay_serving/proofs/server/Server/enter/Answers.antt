@@ -3,8 +3,8 @@ use Rattle.logbook.specs.Pages.{Book}
 use Rattle.replication_workers.specs.Dispatchers.{slots_of}
 use Rattle.published_table.specs.Publishers.{owing, published, reading_terms}
 use Rattle.relay_machine.specs.{Answers.{settings_of}, Settings.{AreLawfulSettings}, declared.settings.Settings.{Settings}}
-use Rattle.relay_serving.specs.{Counting.{with_outcome}, Courses.{events_so_far, happenings_so_far}, GivenOut.{AreOfPublisher, terms_by}, Servers.{counts_in}, Happenings.{Took}}
-use Rattle.relay_serving.proofs.{Counting.{IsCounted-then, torn-few, updated-few}, Entering.{at-next, entry-fits, given_out-other, log-next, none_due, published_log-few, shown-next}, Happenings.{events-next}, server.Server.enter.Goals.{in-Some, in-None}}
+use Rattle.relay_serving.specs.{Counting.{with_outcome}, Courses.{events_so_far, happenings_so_far}, GivenOut.{AreOfPublisher, terms_by}, OutcomeWords.{word_of}, Servers.{counts_in}, Happenings.{Took}}
+use Rattle.relay_serving.proofs.{Counting.{IsCounted-then, torn-few, updated-few}, Entering.{at-next, entry-fits, given_out-other, log-next, none_due, published_log-few, shown-next}, Happenings.{events-next}, OutcomeCounts.{IsTallied-few, IsTallied-then}, server.Server.enter.Goals.{in-Some, in-None}}
 use Rattle.relay_serving.proofs.server.Server.enter.Goals as goal
 
 pub count-requires-clause-outcomes : goal.count-requires-clause-outcomes
@@ -16,6 +16,12 @@ count-requires-clause-outcomes g c =
     let torn = torn-few settings server.first.value events server.counts server.counted in
     let few = c.requires.few in
     (omega (arith, updated, few), omega (arith, torn, few))
+
+pub count-requires-2 : goal.count-requires-2
+count-requires-2 g c =
+    let server = c.args.self.now in
+    let few = c.requires.few in
+    record { few = IsTallied-few (settings_of server.relay) server.first.value (events_so_far server.course) server.outcomes server.tallied (omega (arith, few)) }
 
 pub take-requires-clause-few : goal.take-requires-clause-few
 take-requires-clause-few g c =
@@ -65,6 +71,8 @@ invariant_of-self-in-Some g c =
       publishers = subst (λ (book : Book). AreOfPublisher book (slots_of server.dispatcher)) (sym (c.take.ensures.same.book ∙ c.ready.ensures.same.book)) server.publishers;
       counted = IsCounted-then settings (settings_of c.step.new.self) first events (events_so_far c.then.result) event c.in_ok-outcome.field-0.outcome server.counts c.count.new.self same next
           (c.in_ok-outcome.ensures.outcome settings first events server.at) c.count.ensures server.counted;
+      tallied = IsTallied-then settings first events event (settings_of c.step.new.self) (events_so_far c.then.result) _ server.outcomes c.count-2.new.self same next
+          (ap word_of (c.in_ok-outcome.ensures.outcome settings first events server.at)) c.count-2.ensures server.tallied;
     }
 
 pub invariant_of-self-in-None : goal.invariant_of-self-in-None
@@ -93,6 +101,8 @@ invariant_of-self-in-None g c =
       publishers = subst (λ (book : Book). AreOfPublisher book (slots_of server.dispatcher)) (sym c.ready.ensures.same.book) server.publishers;
       counted = IsCounted-then settings (settings_of c.step.new.self) first events (events_so_far c.then.result) event c.in_ok-outcome.field-0.outcome server.counts c.count.new.self same next
           (c.in_ok-outcome.ensures.outcome settings first events server.at) c.count.ensures server.counted;
+      tallied = IsTallied-then settings first events event (settings_of c.step.new.self) (events_so_far c.then.result) _ server.outcomes c.count-2.new.self same next
+          (ap word_of (c.in_ok-outcome.ensures.outcome settings first events server.at)) c.count-2.ensures server.tallied;
     }
 
 pub returns-clause-counts : goal.returns-clause-counts

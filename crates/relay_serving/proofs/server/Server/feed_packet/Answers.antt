@@ -2,8 +2,14 @@ use Rattle.std.proofs.{Common.{ℕ, [], ◌∷◌, ◌++◌, List, refl, sym, ap
 use Rattle.published_table.specs.Publishers.{book_of, published}
 use Rattle.relay_machine.specs.{Answers.{RelayAt, outcome_of, settings_of}, Published.{published_log}, declared.event.Event.{Event, TheVariants.{Packet}}}
 use Rattle.replication_workers.specs.Dispatchers.{slots_of}
-use Rattle.relay_serving.{specs.{Courses.{events_so_far, happenings_so_far}, GivenOut.{starts_in}, Happenings.{Took}, declared.counts.Counts.{Counts}}, proofs.{Answering.{no_more}, Counting.{IsCounted-then}, Entering.{shown-next}, Happenings.{events-next}, GivenOut.{few-given, given_out-packet, of_publisher-put, starts_in-put}, Packets.{RelayAt-packet, counted-packet, outcome-plain, published_log-packet}, Traces.{Adds, Does-none, server_does}}}
+use Rattle.relay_serving.{specs.{Courses.{events_so_far, happenings_so_far}, GivenOut.{starts_in}, Happenings.{Took}, declared.counts.Counts.{Counts}}, proofs.{Answering.{no_more}, Counting.{IsCounted-then}, Entering.{shown-next}, Happenings.{events-next}, GivenOut.{few-given, given_out-packet, of_publisher-put, starts_in-put}, OutcomeCounts.{IsTallied-few, IsTallied-packet}, Packets.{RelayAt-packet, counted-packet, outcome-plain, published_log-packet}, Traces.{Adds, Does-none, server_does}}}
 use Rattle.relay_serving.proofs.server.Server.feed_packet.Goals as goal
+
+pub count_packet-requires-2-clause-few : goal.count_packet-requires-2-clause-few
+count_packet-requires-2-clause-few g c =
+    let server = c.args.self.now in
+    let few = c.requires.tally in
+    IsTallied-few (settings_of server.relay) server.first.value (events_so_far server.course) server.outcomes server.tallied (omega (arith, few))
 
 pub send-requires-clause-few : goal.send-requires-clause-few
 send-requires-clause-few g c =
@@ -37,6 +43,7 @@ invariant_of-self g c =
       publishers = of_publisher-put (book_of server.publisher) c.send.result _ (slots_of server.dispatcher) (slots_of c.send.new.self) c.send.ensures.put server.publishers;
       counted = IsCounted-then settings settings first events later (Packet bytes) outcome server.counts _ refl next refl
           (c.count_packet.ensures ∙ counted-packet server.counts bytes outcome (outcome-plain settings first events bytes)) server.counted;
+      tallied = IsTallied-packet settings first events later bytes _ server.outcomes c.count_packet-2.new.self next c.as_slice.ensures c.count_packet-2.ensures server.tallied;
     }
 
 pub returns-in_err-packet-clause-none : goal.returns-in_err-packet-clause-none

@@ -40,3 +40,17 @@ pub returns-clause-few : goal.returns-clause-few
 returns-clause-few g c =
     let few = left_few _ _ _ _ _ c.finish-outs.ensures.left in
     omega (arith, few, c.args.self.dispatcher.few_jobs)
+
+pub invariant_of-self : goal.invariant_of-self
+invariant_of-self g c =
+    let server = c.args.self in record {
+      at = server.at;
+      lawful = server.lawful;
+      log = server.log;
+      shown = server.shown;
+      terms = server.terms;
+      given_out = server.given_out;
+      publishers = server.publishers;
+      counted = server.counted;
+      tallied = server.tallied;
+    }

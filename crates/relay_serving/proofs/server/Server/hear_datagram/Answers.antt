@@ -29,6 +29,7 @@ invariant_of-self g c =
       publishers = server.publishers;
       counted = IsCounted-answered (settings_in server) (first_in server) (events_in server) _ _ (counts_in server) c.send_answers.new.counts c.as_slice.result.now c.send_answers.ensures.answered
           few room others server.counted;
+      tallied = server.tallied;
     }
 
 pub returns-in_err-copied-clause-none : goal.returns-in_err-copied-clause-none

@@ -4,7 +4,7 @@ use Rattle.logbook.specs.Pages.{Book}
 use Rattle.published_table.specs.Publishers.{published}
 use Rattle.relay_machine.specs.{Answers.{RelayAt, settings_of}, Published.{published_log}, declared.event.Event.{Event}}
 use Rattle.replication_workers.specs.Dispatchers.{slots_of}
-use Rattle.relay_serving.{specs.{Counting.{IsCounted}, Courses.{events_so_far, happenings_so_far}, GivenOut.{AreOfPublisher}, Happenings.{Published}, Servers.{counts_in, happenings_in}, Turns.{Done, Refused}, declared.counts.Counts.{Counts}}, proofs.{Answering.{no_more}, Counting.{IsCounted-late}, Entering.{given_out-other}, Happenings.{events-shown, published-shown}, Traces.{Adds, adds_none, server_does}}}
+use Rattle.relay_serving.{specs.{Counting.{IsCounted}, OutcomeWords.{IsTallied}, Courses.{events_so_far, happenings_so_far}, GivenOut.{AreOfPublisher}, Happenings.{Published}, Servers.{counts_in, happenings_in}, Turns.{Done, Refused}, declared.counts.Counts.{Counts}}, proofs.{Answering.{no_more}, Counting.{IsCounted-late}, Entering.{given_out-other}, Happenings.{events-shown, published-shown}, Traces.{Adds, adds_none, server_does}}}
 use Rattle.relay_serving.proofs.server.Server.publish.Goals as goal
 
 pub invariant_of-self : goal.invariant_of-self
@@ -26,6 +26,7 @@ invariant_of-self g c =
       given_out = given_out-other settings settings first past later Published (slots_of server.dispatcher) refl c.shown.ensures refl server.given_out;
       publishers = subst (λ (book : Book). AreOfPublisher book (slots_of server.dispatcher)) (sym c.publish_owed.ensures.same.book) server.publishers;
       counted = subst (λ (events : List Event). IsCounted settings first events server.counts) (sym same) server.counted;
+      tallied = subst (λ (events : List Event). IsTallied settings first events server.outcomes) (sym same) server.tallied;
     }
 
 pub invariant_of-self-in-Err : goal.invariant_of-self-in-Err
@@ -40,6 +41,7 @@ invariant_of-self-in-Err g c =
       given_out = server.given_out;
       publishers = subst (λ (book : Book). AreOfPublisher book (slots_of server.dispatcher)) (sym c.publish_owed.ensures.same.book) server.publishers;
       counted = IsCounted-late (settings_of server.relay) server.first.value (events_so_far server.course) server.counts c.count_late.new.self c.count_late.ensures server.counted;
+      tallied = server.tallied;
     }
 
 pub returns-in-Ok : goal.returns-in-Ok

@@ -2,8 +2,14 @@ use Rattle.std.{proofs.Common.{◌++◌, ◌∷◌, [], refl, sym, ap, subst, �
 use Rattle.published_table.specs.Publishers.{owing, published}
 use Rattle.relay_machine.specs.{Answers.{settings_of}, Settings.{AreLawfulSettings}, declared.{event.Event.TheVariants.{Rotate}, outcome.Outcome.TheVariants.{Rotated}, settings.Settings.{Settings}}}
 use Rattle.replication_workers.specs.Dispatchers.{slots_of}
-use Rattle.relay_serving.{specs.{Courses.{events_so_far, happenings_so_far}, GivenOut.{terms_by}, Happenings.{Took}}, proofs.{Counting.{IsCounted-then, secret-uncounted}, Entering.{at-next, given_out-other, log-next, shown-next}, Happenings.{events-next}, Traces.{adds_none, server_does}}}
+use Rattle.relay_serving.{specs.{Courses.{events_so_far, happenings_so_far}, GivenOut.{terms_by}, Happenings.{Took}}, proofs.{Counting.{IsCounted-then, secret-uncounted}, Entering.{at-next, given_out-other, log-next, shown-next}, Happenings.{events-next}, OutcomeCounts.{IsTallied-few, IsTallied-then}, Traces.{adds_none, server_does}}}
 use Rattle.relay_serving.proofs.server.Server.rotate.Goals as goal
+
+pub count-requires : goal.count-requires
+count-requires g c =
+    let server = c.args.self.now in
+    let few = c.requires in
+    record { few = IsTallied-few (settings_of server.relay) server.first.value (events_so_far server.course) server.outcomes server.tallied (omega (arith, few)) }
 
 pub invariant_of-self : goal.invariant_of-self
 invariant_of-self g c =
@@ -25,6 +31,7 @@ invariant_of-self g c =
       given_out = given_out-other settings (settings_of c.step.new.self) first past (happenings_so_far c.then.result) (Took event) (slots_of server.dispatcher) same happened refl server.given_out;
       publishers = server.publishers;
       counted = IsCounted-then settings (settings_of c.step.new.self) first events (events_so_far c.then.result) event Rotated server.counts server.counts same next refl (secret-uncounted server.counts c.args.secret) server.counted;
+      tallied = IsTallied-then settings first events event (settings_of c.step.new.self) (events_so_far c.then.result) _ server.outcomes c.count.new.self same next refl c.count.ensures server.tallied;
     }
 
 pub returns : goal.returns

@@ -3,7 +3,7 @@ use Rattle.response_mac.specs.declared.secret.Secret.{Secret}
 use Rattle.relay_machine.{specs.{declared.settings.Settings.{Settings}, Answers.{RelayAt, settings_of}, Published.{published_log}}, proofs.PublishedLog.{published_log-none}}
 use Rattle.replication_workers.specs.Dispatchers.{slots_of}
 use Rattle.published_table.specs.{Publishers.{book_of}, Views.{IsNew, views_of}}
-use Rattle.relay_serving.{proofs.{Counting.{IsCounted-none}, Starting.{none_given, of_publisher}}, specs.{Courses.{happenings_so_far}, GivenOut.{AreGivenOut, terms_by}, Happenings.{Happening, events_among, published_events_among}}}
+use Rattle.relay_serving.{proofs.{Counting.{IsCounted-none}, OutcomeCounts.{IsTallied-none}, Starting.{none_given, of_publisher}}, specs.{Courses.{happenings_so_far}, GivenOut.{AreGivenOut, terms_by}, Happenings.{Happening, events_among, published_events_among}}}
 use Rattle.relay_serving.proofs.server.Server.start.Goals as goal
 
 pub start_slots-requires-clause-terms : goal.start_slots-requires-clause-terms
@@ -45,6 +45,11 @@ pub invariant_of-result-clause-counted : goal.invariant_of-result-clause-counted
 invariant_of-result-clause-counted g c =
     IsCounted-none (settings_of c.in-Ok.relay) c.of.result.value (happenings_so_far c.new-in-Ok-start_slots-2.result) c.new-in-Ok-start_slots.result
     c.new-in-Ok-start_slots-2.ensures c.new-in-Ok-start_slots.ensures
+
+pub invariant_of-result-clause-tallied : goal.invariant_of-result-clause-tallied
+invariant_of-result-clause-tallied g c =
+    IsTallied-none c.args.settings (settings_of c.in-Ok.relay) c.of.result.value (happenings_so_far c.new-in-Ok-start_slots-2.result) c.in-Ok-new.outcomes
+    c.in-Ok.ensures.stands.settings_kept c.new-in-Ok-start_slots-2.ensures c.in-Ok-new.ensures.limit c.in-Ok-new.ensures.none
 
 pub invariant_of-result-clause-publishers : goal.invariant_of-result-clause-publishers
 invariant_of-result-clause-publishers g c =

@@ -26,7 +26,7 @@ returns-clause-ran g c =
       words = served.new.words;
       outs = served.result.outs;
       spawner = served.new.spawner;
-      control = c.in-Ok.devices.control;
+      control = served.new.control;
     }) (views_of served.result.views) served.result.report c.settings.result c.max-slots.result c.settings.ensures c.max-slots.ensures
     opening.outs opening.control c.open_relay.ensures.asked opening.first opening.tells c.open_relay.ensures.returned opening.room
     back.returned back.tells back.room back.kept back.asked)

@@ -1,6 +1,6 @@
-use Rattle.std.proofs.Common.{◌≡◌, ◌⊎◌, ◌∙◌, Contains, ap, false, inl, inr, subst, sym}
-use Rattle.amt_ports.specs.{Causes.{next_count}, Tally.{with_call}}
-use Rattle.serving_commands.{specs.{Sets.{fits_gateway}, declared.opening.live.OpenFault.TheVariants.{Failed}}, proofs.Faults.{same_fault}}
+use Rattle.std.proofs.Common.{◌≡◌, ◌⊎◌, ◌∙◌, Contains, IsSome, ap, false, inl, inr, subst, sym}
+use Rattle.amt_ports.specs.{Causes.{next_count}, Tally.{with_call, with_fault}, Told.{Appends}}
+use Rattle.serving_commands.{specs.{Sets.{fits_gateway}, declared.opening.{asked.Opening.TheVariants.{Gateway as AskedGateway}, live.OpenFault.TheVariants.{Failed}}}, proofs.Faults.{same_fault}}
 use Rattle.serving_commands.proofs.opening.memory.MemLiveLive.open_gateway.Goals as goal
 
 pub returns-in-Err-clause-quiet : goal.returns-in-Err-clause-quiet
@@ -25,3 +25,30 @@ pub returns-in-Err-clause-ok : goal.returns-in-Err-clause-ok
 returns-in-Err-clause-ok g c = λ other.
     let counted = c.in-Err.ensures.ok (λ is. other (same_fault c.in-Err.fault Failed is)) in
     subst (λ live. c.admit.new.calls ≡ with_call live.calls) c.self.view_is counted
+
+pub returns-in-Ok-clause-asked : goal.returns-in-Ok-clause-asked
+returns-in-Ok-clause-asked g c = subst (λ live. Appends live.asked c.admit.new.asked (AskedGateway c.args.listen.now c.args.control.now)) c.self.view_is c.in-Ok.ensures.asked
+
+pub returns-in-Ok-clause-tells : goal.returns-in-Ok-clause-tells
+returns-in-Ok-clause-tells g c = subst (λ live. IsSome live.asked → IsSome c.admit.new.asked) c.self.view_is c.in-Ok.ensures.tells
+
+pub returns-in-Ok-clause-quiet : goal.returns-in-Ok-clause-quiet
+returns-in-Ok-clause-quiet g c = λ other. subst (λ live. c.admit.new.calls.faults ≡ live.calls.faults) c.self.view_is (ap (λ calls. calls.faults) (c.in-Ok.ensures.ok (λ is. cc is)))
+
+pub returns-in-Ok-clause-listed : goal.returns-in-Ok-clause-listed
+returns-in-Ok-clause-listed g c = λ listed.
+    absurd (cc (c.in-Ok.ensures.listed (subst (λ live. Contains live.calls.failing (next_count live.calls.made)) (sym c.self.view_is) listed)))
+
+pub returns-in-Ok-clause-ok : goal.returns-in-Ok-clause-ok
+returns-in-Ok-clause-ok g c = λ other. subst (λ live. c.admit.new.calls ≡ with_call live.calls) c.self.view_is (c.in-Ok.ensures.ok (λ is. cc is))
+
+pub returns-in-Err-clause-asked : goal.returns-in-Err-clause-asked
+returns-in-Err-clause-asked g c = subst (λ live. Appends live.asked c.admit.new.asked (AskedGateway c.args.listen.now c.args.control.now)) c.self.view_is c.in-Err.ensures.asked
+
+pub returns-in-Err-clause-unfit : goal.returns-in-Err-clause-unfit
+returns-in-Err-clause-unfit g c = λ unfit.
+    same_fault c.in-Err.fault Failed
+    (c.in-Err.ensures.unfit (c.fits_gateway-fits.ensures ∙ subst (λ sets. fits_gateway sets ≡ false) (sym c.as_slice.ensures.value) (subst (λ live. fits_gateway live.sets ≡ false) (sym c.self.view_is) unfit)))
+
+pub returns-in-Err-clause-err : goal.returns-in-Err-clause-err
+returns-in-Err-clause-err g c = λ is. subst (λ live. c.admit.new.calls ≡ with_fault (with_call live.calls)) c.self.view_is (c.in-Err.ensures.err (same_fault c.in-Err.fault Failed is))

@@ -1,0 +1,116 @@
+-- Lines that ask a running relay for something, and how they are answered.
+use Rattle.std.specs.Prelude.{◌≡◌, ℕ, ◌+◌, ◌≤◌, ◌<◌, Bool, true, false, List, [], ◌∷◌, ◌++◌, count_by, length, Result, Ok, Err}
+use Rattle.std.specs.List.{list_any}
+use Rattle.amt_ports.specs.{Causes.{Rose}, Devices.{AnswersAll, LinkSeen}, Told.{Answers, Appends}, declared.link.LinkAnswer.{LinkAnswer, TheVariants.{Datagram as LineCame, Nothing as NothingCame, Closed as LinkClosed}}}
+use Rattle.amt_values.specs.{Conditions.{First}, declared.peer.Peer.{Peer}}
+use Rattle.control_lines.specs.{Answer.{HasReplied}, Asking.{Asks, Fails, line_of, order_of_reasons}, declared.asking.Asking.{Asking, TheVariants.{Counts, Show, ShowOf, Stop}}}
+use Rattle.response_mac.specs.declared.secret.Secret.{Secret}
+use Rattle.script_lines.specs.declared.reason.Reason.{Reason}
+use Rattle.relay_machine.specs.declared.settings.Settings.{Settings}
+use Rattle.relay_serving.specs.{Controls.{ControlSeen}, Replies.{Standing, reply_text}, declared.control.CopyCount.{CopyCount}}
+
+-- One line: from whom it came, as what it was read, the copies that were counted for it, and whether memory refused its
+-- answer.
+pub record Asked : Type 0 where
+  pub from : Peer
+  pub line : List ℕ
+  pub reading : Result Asking Reason
+  pub copied : CopyCount
+  pub starved : Bool
+
+-- the line asks for this, or is bad for the first reason that holds
+abbrev pub IsRead : List ℕ → Result Asking Reason → Type 0
+IsRead line (Ok asking) = Asks asking line
+IsRead line (Err reason) = First (Fails (line_of line)) order_of_reasons reason
+
+-- the run is to end
+abbrev pub is_stop : Result Asking Reason → Bool
+is_stop (Ok Counts) = false
+is_stop (Ok Show) = false
+is_stop (Ok (ShowOf peer)) = false
+is_stop (Ok Stop) = true
+is_stop (Err reason) = false
+
+abbrev pub refused_among : List Asked → ℕ
+refused_among asked = count_by (λ one. one.starved) asked
+
+-- where memory refused so many answers more
+abbrev pub refusing_more : ℕ → Standing → Standing
+refusing_more number standing = record standing { starved = standing.starved + number }
+
+-- nothing was tried
+pub record IsUntried (before after : LinkSeen) : Type 0 where
+  pub same_tried : after.tried ≡ before.tried
+  pub same_faults : after.send_faults ≡ before.send_faults
+
+-- exactly the answer was tried to whoever asked, or nothing where memory refused it
+abbrev pub HasAnswer : Bool → Peer → List ℕ → LinkSeen → LinkSeen → Type 0
+HasAnswer true from text before after = IsUntried before after
+HasAnswer false from text before after = HasReplied from text before after
+
+module _ (settings : Settings) (first : Secret) (workers : ℕ) where
+  -- the line was the next that came, and was answered by where the run stood
+  pub record IsAnswered (standing : Standing) (one : Asked) (before after : ControlSeen) : Type 0 where
+    pub came : Answers LinkClosed before.link.coming after.link.coming (LineCame one.from one.line)
+    pub read : IsRead one.line one.reading
+    pub counted : Appends before.copies after.copies one.copied
+    pub answer : HasAnswer one.starved one.from (reply_text settings first workers standing one.reading one.copied) before.link after.link
+    pub calm : after.link.receive_faults ≡ before.link.receive_faults
+    pub unwaited : after.wait ≤ before.wait
+
+  -- one line after the other, where those before it were refused
+  pub data AreAnswered (standing : Standing) (start : ControlSeen) : List Asked → ControlSeen → Type 0 where
+    no_line : AreAnswered standing start [] start
+    line_more : (asked : List Asked) (now : ControlSeen) → AreAnswered standing start asked now
+        → (one : Asked) (after : ControlSeen) → IsAnswered (refusing_more (refused_among asked) standing) one now after
+        → AreAnswered standing start (asked ++ one ∷ []) after
+
+-- How the askings of a turn ended: 64 lines had come; the link answered that nothing is there, or that it is closed; or
+-- it failed.
+pub data RoundEnd : Type 0 where
+  Full : RoundEnd
+  Silent : RoundEnd
+  Shut : RoundEnd
+  Failed : RoundEnd
+
+-- after so many lines
+abbrev pub IsEnd : RoundEnd → ℕ → Type 0
+IsEnd Full lines = lines ≡ 64
+IsEnd other lines = lines < 64
+
+abbrev pub end_answers : RoundEnd → List LinkAnswer
+end_answers Full = []
+end_answers Silent = NothingCame ∷ []
+end_answers Shut = LinkClosed ∷ []
+end_answers Failed = []
+
+abbrev pub HasEndCause : RoundEnd → ℕ → ℕ → Type 0
+HasEndCause Failed before after = Rose before after
+HasEndCause other before after = after ≡ before
+
+-- it ended so, and nothing else was done
+pub record EndsRound (ending : RoundEnd) (before after : ControlSeen) : Type 0 where
+  pub came : AnswersAll LinkClosed before.link.coming after.link.coming (end_answers ending)
+  pub cause : HasEndCause ending before.link.receive_faults after.link.receive_faults
+  pub untried : IsUntried before.link after.link
+  pub same_copies : after.copies ≡ before.copies
+  pub unwaited : after.wait ≤ before.wait
+
+-- the lines of one whole turn, and how they ended
+pub record Round : Type 0 where
+  pub asked : List Asked
+  pub ending : RoundEnd
+
+-- somebody asked in it that the run ends
+abbrev pub is_stopped : Round → Bool
+is_stopped round = list_any (λ one. is_stop one.reading) round.asked
+
+abbrev pub refused_in : Round → ℕ
+refused_in round = refused_among round.asked
+
+-- a round after a turn after which the run stood so
+pub record IsRound (settings : Settings) (first : Secret) (workers : ℕ) (standing : Standing) (round : Round) (before after : ControlSeen) : Type 0 where
+  pub last : ControlSeen
+  pub answered : AreAnswered settings first workers standing before round.asked last
+  pub ends : EndsRound round.ending last after
+  pub is_end : IsEnd round.ending (length round.asked)
