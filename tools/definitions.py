@@ -1,10 +1,11 @@
-"""Makes docs/DEFINITIONS.md: what the clauses that docs/PROMISES.md names are stated in.
+"""Makes docs/DEFINITIONS.md: the words in which the promises of docs/PROMISES.md are stated.
 
 usage: python3 tools/definitions.py [--check]
 
-A name is listed where it occurs in the contract of a function that PROMISES links to, or where PROMISES links to its
-definition. What it says is the comment above it in its file, up to the first full stop. The head of DEFINITIONS, up to the mark, is written by hand.
-With --check nothing is written, and the status is 1 where the file isn't current.
+A word is listed where it occurs in the contract of a function that PROMISES links to, or where PROMISES links to its
+definition. Those of the headlines and of what both ends agree on stand with the first clause of the comment above them,
+below the first section of PROMISES that uses them; all others by crate and file. The head of the page, up to the mark,
+is written by hand. With --check nothing is written, and the status is 1 where the file isn't current.
 """
 import collections
 import os
@@ -15,6 +16,7 @@ TOP = os.path.join(os.path.dirname(os.path.abspath(__file__)), "..")
 PAGE = "docs/DEFINITIONS.md"
 MARK = "<!-- From here on made by tools/definitions.py. -->\n"
 WORD = r"[A-Za-z_][A-Za-z0-9_']*"
+HEADLINE = re.compile(r"^The headline|agree$")
 DEFINITION = re.compile(r"(?:abbrev pub|unfoldable pub|pub record|pub data)\s+(\S+)")
 
 
@@ -37,14 +39,15 @@ def definitions():
                     continue
                 words = DEFINITION.match(line)
                 if words:
-                    found.setdefault((crate, words[1]), (name[:-5], sentence(" ".join(comment))))
+                    found.setdefault((crate, words[1]), (name[:-5], clause(" ".join(comment))))
                 comment = []
     return found
 
 
-def sentence(comment):
-    """Up to the first full stop that ends a sentence; a section of an RFC stays in its brackets."""
-    return re.split(r"(?<=[a-z0-9)`])\. (?=[A-Z`])", comment, maxsplit=1)[0].rstrip(".").replace("|", "\\|")
+def clause(comment):
+    """Up to the first full stop or semicolon, without sections of RFCs, which docs/RFC7450.md has."""
+    comment = re.sub(r"\s*\((?:RFC|section)[^()]*\)", "", comment)
+    return re.split(r"(?<=[a-zA-Z0-9)`]); |(?<=[a-zA-Z0-9)`])\. (?=[A-Z`])", comment, maxsplit=1)[0].rstrip(".")
 
 
 def crates():
@@ -68,34 +71,59 @@ def contract_of(text, name):
 
 
 def cited():
-    """The names in the contracts that PROMISES links to, and the definitions that it links to, with their crates."""
-    found = set()
-    for label, path in re.findall(r"\[`([^`]+)`\]\(\.\./([^)#]+)\)", text_of("docs/PROMISES.md")):
-        text, name = text_of(path), label.split("::")[-1]
-        crate = path.split("/")[1]
-        if path.endswith(".antt"):
-            found.add((crate, name))
-            continue
-        source = imported(text)
-        for word in re.findall(WORD, contract_of(text, name)):
-            found.add((source.get(word, crate), word))
-    return found
+    """Of each section of PROMISES the names in the contracts that it links to, and the definitions that it links to, with
+    their crates."""
+    for section in text_of("docs/PROMISES.md").split("\n## ")[1:]:
+        found = set()
+        for label, path in re.findall(r"\[`([^`]+)`\]\(\.\./([^)#]+)\)", section):
+            text, name = text_of(path), label.split("::")[-1]
+            crate = path.split("/")[1]
+            if path.endswith(".antt"):
+                found.add((crate, name))
+                continue
+            source = imported(text)
+            for word in re.findall(WORD, contract_of(text, name)):
+                found.add((source.get(word, crate), word))
+        yield section.partition("\n")[0], found
+
+
+def link(label, crate, module):
+    return f"[{label}](../crates/{crate}/specs/{module}.antt)"
+
+
+def with_comments(known, names):
+    """A line a word; one without a link is in the file of the one above it."""
+    lines, before = [], None
+    for crate, name in names:
+        module, says = known[crate, name]
+        word = f"`{name}`" if (crate, module) == before else link(f"`{name}`", crate, module)
+        lines.append(f"- {word}" + (f": {says}" if says else ""))
+        before = crate, module
+    return lines
+
+
+def by_file(known, names):
+    """A line a crate: its files, each with its words."""
+    files = collections.defaultdict(lambda: collections.defaultdict(list))
+    for crate, name in names:
+        files[crate][known[crate, name][0]].append(f"`{name}`")
+    return [
+        f"- **{crate}** " + "; ".join(link(module, crate, module) + " " + ", ".join(words) for module, words in of.items())
+        for crate, of in files.items()
+    ]
 
 
 def page():
-    known, names = definitions(), cited()
-    by_module = collections.defaultdict(list)
-    for (crate, name), (module, says) in known.items():
-        if (crate, name) in names:
-            by_module[crate, module].append((name, says))
-    lines = []
-    for crate in crates():
-        modules = [it for it in by_module if it[0] == crate]
-        if modules:
-            lines += ["", f"## {crate}", "", "name | says", "---|---"]
-        for _, module in sorted(modules):
-            for name, says in by_module[crate, module]:
-                lines.append(f"[`{name}`](../crates/{crate}/specs/{module}.antt) | {says}")
+    known, seen, lines, others = definitions(), set(), [], set()
+    for section, found in cited():
+        new = {it for it in found if it in known}
+        if not HEADLINE.search(section):
+            others |= new
+            continue
+        names = [it for it in known if it in new - seen]
+        lines += ["", f"## {section}", ""] + with_comments(known, names)
+        seen |= new
+    lines += ["", "## All other words", ""] + by_file(known, [it for it in known if it in others - seen])
     return text_of(PAGE).partition(MARK)[0] + MARK + "\n".join(lines) + "\n"
 
 
