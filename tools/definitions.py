@@ -2,10 +2,11 @@
 
 usage: python3 tools/definitions.py [--check]
 
-A word is listed where it occurs in the contract of a function that PROMISES links to, or where PROMISES links to its
-definition. Those of the headlines and of what both ends agree on stand with the first clause of the comment above them,
-below the first section of PROMISES that uses them; all others by crate and file. The head of the page, up to the mark,
-is written by hand. With --check nothing is written, and the status is 1 where the file isn't current.
+A word is listed where it occurs in a clause that PROMISES names, in a condition of such a call, or where PROMISES links
+to its definition. Those of the headlines and of what both ends agree on stand with the first clause of the comment above
+them, below the first section of PROMISES that uses them; all others by crate and file. The head of the page, up to the
+mark, is written by hand. With --check nothing is written. The status is 1 where the file isn't current, or PROMISES names
+a clause that a function doesn't have.
 """
 import collections
 import os
@@ -64,26 +65,39 @@ def imported(text):
     return found
 
 
-def contract_of(text, name):
-    """The clauses of the functions of this name."""
+def clauses_of(text, name):
+    """Label and text of each clause of the functions of this name; one without a label has none, nor has a condition."""
     parts = re.findall(rf"\bfn {re.escape(name)}\b(.*?)\n\s*\{{(?:\}})?\n|\bfn {re.escape(name)}\b(.*?);\n", text, re.S)
-    return "\n".join("".join(part) for part in parts)
+    contract = "\n".join("".join(part) for part in parts)
+    found = re.findall(r"\b(ensures|requires)\s*(\w*)\s*\{(.*?)(?=\bensures\b|\brequires\b|\Z)", contract, re.S)
+    return [(None if kind == "requires" else label, body) for kind, label, body in found]
+
+
+def links_of(section):
+    """Each link of a section of PROMISES, with the labels that stand after it; where none do, all of its clauses count."""
+    for part in re.split(r"; | \| |, over ", section):
+        labels = re.search(r"\): ((?:`\w+`(?:, )?)+)", part)
+        for name, path in re.findall(r"\[`([^`]+)`\]\(\.\./([^)#]+)\)", part):
+            yield name, path, re.findall(r"\w+", labels[1]) if labels else None
 
 
 def cited():
-    """Of each section of PROMISES the names in the contracts that it links to, and the definitions that it links to, with
-    their crates."""
+    """Of each section of PROMISES the names in the clauses that it names, and the definitions that it links to, with their
+    crates."""
     for section in text_of("docs/PROMISES.md").split("\n## ")[1:]:
         found = set()
-        for label, path in re.findall(r"\[`([^`]+)`\]\(\.\./([^)#]+)\)", section):
+        for label, path, labels in links_of(section):
             text, name = text_of(path), label.split("::")[-1]
             crate = path.split("/")[1]
             if path.endswith(".antt"):
                 found.add((crate, name))
                 continue
-            source = imported(text)
-            for word in re.findall(WORD, contract_of(text, name)):
-                found.add((source.get(word, crate), word))
+            source, clauses = imported(text), clauses_of(text, name)
+            for lost in set(labels or []) - {it for it, _ in clauses}:
+                sys.exit(f"docs/PROMISES.md: {label} has no clause {lost}")
+            for clause_label, clause_text in clauses:
+                if labels is None or clause_label is None or clause_label in labels:
+                    found |= {(source.get(word, crate), word) for word in re.findall(WORD, clause_text)}
         yield section.partition("\n")[0], found
 
 
