@@ -1,12 +1,14 @@
 """Makes docs/DEFINITIONS.md: the words in which the promises of docs/PROMISES.md are stated.
 
-usage: python3 tools/definitions.py [--check]
+usage: python3 tools/definitions.py [--check | --read FILE..]
 
-A word is listed where it occurs in a clause that PROMISES names, in a condition of such a call, or where PROMISES links
-to its definition. Those of the headlines and of what both ends agree on stand with the first clause of the comment above
-them, below the first section of PROMISES that uses them; all others by crate and file. The head of the page, up to the
-mark, is written by hand. With --check nothing is written. The status is 1 where the file isn't current, or PROMISES names
-a clause that a function doesn't have.
+A word is listed where it occurs in a clause that a headline of PROMISES names, or what both ends agree on, in a condition
+of such a call, or where these sections link to its definition: with the first clause of the comment above it, below the
+first section that uses it. The head of the page, up to the mark, is written by hand. With --check nothing is written, and
+the status is 1 where the page isn't current, or PROMISES names a clause that a function doesn't have.
+
+With --read the files of definitions are printed on which the contracts in these files of Rattle stand, a line a crate: a
+file comes after all that it uses.
 """
 import collections
 import os
@@ -116,32 +118,54 @@ def with_comments(known, names):
     return lines
 
 
-def by_file(known, names):
-    """A line a crate: its files, each with its words."""
-    files = collections.defaultdict(lambda: collections.defaultdict(list))
-    for crate, name in names:
-        files[crate][known[crate, name][0]].append(f"`{name}`")
-    return [
-        f"- **{crate}** " + "; ".join(link(module, crate, module) + " " + ", ".join(words) for module, words in of.items())
-        for crate, of in files.items()
-    ]
-
-
 def page():
-    known, seen, lines, others = definitions(), set(), [], set()
+    known, seen, lines = definitions(), set(), []
     for section, found in cited():
-        new = {it for it in found if it in known}
-        if not HEADLINE.search(section):
-            others |= new
-            continue
-        names = [it for it in known if it in new - seen]
-        lines += ["", f"## {section}", ""] + with_comments(known, names)
-        seen |= new
-    lines += ["", "## All other words", ""] + by_file(known, [it for it in known if it in others - seen])
+        if HEADLINE.search(section):
+            names = [it for it in known if it in found - seen]
+            lines += ["", f"## {section}", ""] + with_comments(known, names)
+            seen |= found
     return text_of(PAGE).partition(MARK)[0] + MARK + "\n".join(lines) + "\n"
 
 
+def files_used(text):
+    """The files of definitions that a file names, as crate and module."""
+    for crate, names in re.findall(r"use Rattle\.(\w+)\.specs\.(.*?)(?:;|\n(?!\s))", text + "\n", re.S):
+        names = names.strip().removeprefix("{").removesuffix("}") if names.startswith("{") else names
+        count = 1
+        while count:
+            names, count = re.subn(r"\{[^{}]*\}", "", names)
+        for module in re.findall(r"(?:^|,)\s*(\w+)", names):
+            if os.path.exists(os.path.join(TOP, f"crates/{crate}/specs/{module}.antt")):
+                yield crate, module
+
+
+def add_used(text, done, found):
+    """Puts what a file stands on at the end of `found`, each after all that it uses itself."""
+    for crate, module in files_used(text):
+        if (crate, module) not in done:
+            done.add((crate, module))
+            add_used(text_of(f"crates/{crate}/specs/{module}.antt"), done, found)
+            found.append((crate, module))
+
+
+def print_files(paths):
+    found, by_crate = [], collections.defaultdict(list)
+    for path in paths:
+        add_used(text_of(os.path.relpath(path, TOP)), {*found}, found)
+    for crate, module in found:
+        by_crate[crate].append(module)
+    for crate in crates():
+        if crate in by_crate:
+            print(f"{crate}: {', '.join(by_crate[crate])}")
+    lines = sum(text_of(f"crates/{crate}/specs/{module}.antt").count("\n") for crate, module in found)
+    print(f"{len(found)} files of crates/CRATE/specs, {lines} lines")
+    return 0
+
+
 def main():
+    if sys.argv[1:2] == ["--read"]:
+        return print_files(sys.argv[2:])
     made = page()
     if sys.argv[1:] == ["--check"]:
         if made != text_of(PAGE):
