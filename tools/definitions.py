@@ -48,9 +48,21 @@ def definitions():
 
 
 def clause(comment):
-    """Up to the first full stop or semicolon, without sections of RFCs, which docs/RFC7450.md has."""
+    """The first sentence, without sections of RFCs, which docs/RFC7450.md has; of a list with semicolons what introduces
+    it by a colon, where that is more than three words, or else its first item."""
     comment = re.sub(r"\s*\((?:RFC|section)[^()]*\)", "", comment)
-    return re.split(r"(?<=[a-zA-Z0-9)`]); |(?<=[a-zA-Z0-9)`])\. (?=[A-Z`])", comment, maxsplit=1)[0].rstrip(".")
+    first = before(comment, r"\. (?=[A-Z`])").rstrip(".")
+    item = before(first, r"; ")
+    head = before(item, r": ")
+    return head if item != first and len(head.split()) > 3 else item
+
+
+def before(text, mark):
+    """The text before the first such mark that isn't within backticks, or all of it."""
+    for found in re.finditer(mark, text):
+        if text[: found.start()].count("`") % 2 == 0:
+            return text[: found.start()]
+    return text
 
 
 def crates():
@@ -109,12 +121,12 @@ def link(label, crate, module):
 
 def with_comments(known, names):
     """A line a word; one without a link is in the file of the one above it."""
-    lines, before = [], None
+    lines, file = [], None
     for crate, name in names:
         module, says = known[crate, name]
-        word = f"`{name}`" if (crate, module) == before else link(f"`{name}`", crate, module)
-        lines.append(f"- {word}" + (f": {says}" if says else ""))
-        before = crate, module
+        word = f"`{name}`" if (crate, module) == file else link(f"`{name}`", crate, module)
+        lines.append(f"- {word}: {says}")
+        file = crate, module
     return lines
 
 
@@ -122,7 +134,7 @@ def page():
     known, seen, lines = definitions(), set(), []
     for section, found in cited():
         if HEADLINE.search(section):
-            names = [it for it in known if it in found - seen]
+            names = [it for it in known if it in found - seen and known[it][1]]
             lines += ["", f"## {section}", ""] + with_comments(known, names)
             seen |= found
     return text_of(PAGE).partition(MARK)[0] + MARK + "\n".join(lines) + "\n"
