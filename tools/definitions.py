@@ -2,13 +2,14 @@
 
 usage: python3 tools/definitions.py [--check | --read FILE..]
 
-A word is listed where it occurs in a clause that a headline of PROMISES names, or what both ends agree on, in a condition
-of such a call, or where these sections link to its definition: with the first clause of the comment above it, below the
-first section that uses it. The head of the page, up to the mark, is written by hand. With --check nothing is written, and
-the status is 1 where the page isn't current, or PROMISES names a clause that a function doesn't have.
+A word is listed where it occurs in a clause that a headline of PROMISES names, or what both ends agree on, in a
+condition of such a call, or where these sections link to its definition: with the first clause of the comment above
+it, below the first section that uses it; one without a comment isn't. The head of the page, up to the mark, is written
+by hand. With --check nothing is written, and the status is 1 where the page isn't current, or where PROMISES names a
+clause that a function doesn't have.
 
-With --read the files of definitions are printed on which the contracts in these files of Rattle stand, a line a crate: a
-file comes after all that it uses.
+With --read the files of definitions are printed on which the contracts in these files of Rattle stand, a line a crate:
+a file comes after all that it uses.
 """
 import collections
 import os
@@ -48,8 +49,8 @@ def definitions():
 
 
 def clause(comment):
-    """The first sentence, without sections of RFCs, which docs/RFC7450.md has; of a list with semicolons what introduces
-    it by a colon, where that is more than three words, or else its first item."""
+    """The first sentence, without sections of RFCs, which docs/RFC7450.md has; of a list with semicolons what
+    introduces it by a colon, where that is more than three words, or else its first item."""
     comment = re.sub(r"\s*\((?:RFC|section)[^()]*\)", "", comment)
     first = before(comment, r"\. (?=[A-Z`])").rstrip(".")
     item = before(first, r"; ")
@@ -80,15 +81,16 @@ def imported(text):
 
 
 def clauses_of(text, name):
-    """Label and text of each clause of the functions of this name; one without a label has none, nor has a condition."""
-    parts = re.findall(rf"\bfn {re.escape(name)}\b(.*?)\n\s*\{{(?:\}})?\n|\bfn {re.escape(name)}\b(.*?);\n", text, re.S)
+    """Label and text of each clause of the functions of this name; a condition has no label."""
+    start = rf"\bfn {re.escape(name)}\b"
+    parts = re.findall(rf"{start}(.*?)\n\s*\{{(?:\}})?\n|{start}(.*?);\n", text, re.S)
     contract = "\n".join("".join(part) for part in parts)
     found = re.findall(r"\b(ensures|requires)\s*(\w*)\s*\{(.*?)(?=\bensures\b|\brequires\b|\Z)", contract, re.S)
     return [(None if kind == "requires" else label, body) for kind, label, body in found]
 
 
 def links_of(section):
-    """Each link of a section of PROMISES, with the labels that stand after it; where none do, all of its clauses count."""
+    """Each link of a section of PROMISES, with the labels after it; where there are none, all its clauses count."""
     for part in re.split(r"; | \| |, over ", section):
         labels = re.search(r"\): ((?:`\w+`(?:, )?)+)", part)
         for name, path in re.findall(r"\[`([^`]+)`\]\(\.\./([^)#]+)\)", part):
@@ -96,19 +98,23 @@ def links_of(section):
 
 
 def cited():
-    """Of each section of PROMISES the names in the clauses that it names, and the definitions that it links to, with their
-    crates."""
+    """Of each section of PROMISES the names in the clauses that it names, and the definitions that it links to, with
+    their crates."""
     for section in text_of("docs/PROMISES.md").split("\n## ")[1:]:
         found = set()
         for label, path, labels in links_of(section):
             text, name = text_of(path), label.split("::")[-1]
             crate = path.split("/")[1]
             if path.endswith(".antt"):
+                there = re.findall(r"^\s+(?:pub )?(\w+) :(?= |$)", text, re.M)
+            else:
+                source, clauses = imported(text), clauses_of(text, name)
+                there = [it for it, _ in clauses]
+            for lost in sorted(set(labels or []) - set(there)):
+                sys.exit(f"docs/PROMISES.md: {label} has no clause {lost}")
+            if path.endswith(".antt"):
                 found.add((crate, name))
                 continue
-            source, clauses = imported(text), clauses_of(text, name)
-            for lost in set(labels or []) - {it for it, _ in clauses}:
-                sys.exit(f"docs/PROMISES.md: {label} has no clause {lost}")
             for clause_label, clause_text in clauses:
                 if labels is None or clause_label is None or clause_label in labels:
                     found |= {(source.get(word, crate), word) for word in re.findall(WORD, clause_text)}
