@@ -1,7 +1,7 @@
 #!/bin/sh
 # How fast a running relay is, over the loopback, with packets of 1,344 octets: lost packets at a quarter of the rate
-# of a bare `sendto` loop, copies a second at full rate, the processor time of a copy and Updates a second with 65,536
-# live endpoints, the processor time of the longest Updates, and what an idle relay takes. In the same run, each figure
+# of a bare `sendto` loop, copies a second at full rate, both also with a control socket that nobody asks; the processor time of a copy and Updates a second with
+# 65,536 live endpoints, the processor time of the longest Updates, and what an idle relay takes. In the same run, each figure
 # stands beside the bare loop and beside the least that a relay can do, a loop of `recv` and `sendto` in C. All else on
 # the machine disturbs them: the load is printed, and `chrt -f 1 bench/relay.sh` gives every program of the trial the same advantage over it; but an idle relay
 # has none, since by a real-time policy its sleeps would end on time, which isn't how it runs.
@@ -46,6 +46,10 @@ END
 
 # With the limits as they are by default: a long report names more groups than the relay above allows.
 grep -v '^endpoints\|^groups' "$work/relay.toml" > "$work/long.toml"
+
+# With a control socket, which nobody asks.
+cp "$work/relay.toml" "$work/asked.toml"
+echo "control = \"$address:9003\"" >> "$work/asked.toml"
 
 # serve COMMAND WORKERS [SETTINGS]: the relay runs
 serve() {
@@ -98,9 +102,10 @@ unread() {
     awk -v feed="$(printf '01%02X4D7F:%04X' "$third" 9000)" '$2 == feed { print "unread", $NF }' /proc/net/udp
 }
 
-# relayed COMMAND WORKERS KIND ENDPOINTS RATE GROUP: a trial of a relay, with so many packets a second to a group
+# relayed COMMAND WORKERS KIND ENDPOINTS RATE GROUP [SETTINGS]: a trial of a relay, with so many packets a second to a
+# group
 relayed() {
-    serve "$1" "$2"
+    serve "$1" "$2" "${7:-relay}"
     "$work/trial" "$link" "$process" "$3" "$4" "$work/flood" "$feed" "$5" "$seconds" "$6" > "$work/figures"
     unread >> "$work/figures"
     end
@@ -138,6 +143,7 @@ full_rate() {
     relayed "$relay" 0 shared 1 $((one * 3 / 2)) 0
     r=$(figure rate)
     for kept in "bare.1 $one" "c.1 $c" "relay.1 $r" "relay.1.c $(sum "$r / $c")"; do keep $kept; done
+    controlled 1 0 $((one * 3 / 2)) "$r"
 
     bare 16
     all=$(figure rate)
@@ -149,6 +155,15 @@ full_rate() {
     two=$(figure rate)
     for kept in "bare.16 $all" "c.16 $c" "relay.16 $r" "relay.16.bare $(sum "$r / $all")" \
         "two.16 $two" "two.16.one $(sum "$two / $r")"; do keep $kept; done
+    controlled 16 2 $((all * 3 / 32)) "$two"
+}
+
+# controlled RECEIVERS WORKERS RATE WITHOUT: the same with a control socket, beside the rate without
+controlled() {
+    [ "$relay" != "$loop" ] || return 0
+    relayed "$relay" "$2" shared "$1" "$3" 0 asked
+    keep "control.$1" "$(figure rate)"
+    keep "control.$1.without" "$(sum "$(figure rate) / $4")"
 }
 
 # a_copy: microseconds of processor time for each copy of the last trial
@@ -244,6 +259,12 @@ share=$(median two.16.one %.2f)
 show 'copies/s, 16 receivers, 2 workers, of 1 worker' "$(median two.16 %.0f)" "$(median c.16 %.0f)" \
     "$(median bare.16 %.0f)" "$share" '> 1' "$share > 1"
 show 'least processor us a copy, 16 endpoints' "$(least relay.few)" "$(least loop.few)" "$(least bare.us)" ''
+if [ "$relay" != "$loop" ]; then
+    share=$(median control.1.without %.2f)
+    show 'copies/s, 1 receiver, a control, of without' "$(median control.1 %.0f)" '' '' "$share" 0.97 "$share >= 0.97"
+    share=$(median control.16.without %.2f)
+    show 'copies/s, 16, 2 workers, a control, of without' "$(median control.16 %.0f)" '' '' "$share" 0.97 "$share >= 0.97"
+fi
 share=$(sum "$(least relay.many) / $(least relay.few)")
 show "least processor us a copy, $many, of 16" "$(least relay.many)" "$(least loop.many)" "$(least bare.us)" \
     "$share" 1.30 "$share <= 1.3"
