@@ -1,10 +1,11 @@
 #!/bin/sh
 # How fast a running relay is, over the loopback, with packets of 1,344 octets: lost packets at a quarter of the rate
-# of a bare `sendto` loop, copies a second at full rate, both also with a control socket that nobody asks; the processor time of a copy and Updates a second with
-# 65,536 live endpoints, the processor time of the longest Updates, and what an idle relay takes. In the same run, each figure
-# stands beside the bare loop and beside the least that a relay can do, a loop of `recv` and `sendto` in C. All else on
-# the machine disturbs them: the load is printed, and `chrt -f 1 bench/relay.sh` gives every program of the trial the same advantage over it; but an idle relay
-# has none, since by a real-time policy its sleeps would end on time, which isn't how it runs.
+# of a bare `sendto` loop; copies a second at full rate, and the same with a control socket that nobody asks; the
+# processor time of a copy and Updates a second with 65,536 live endpoints; the processor time of the longest Updates;
+# and what an idle relay takes. In the same run, each figure stands beside the bare loop and beside the least that a
+# relay can do, a loop of `recv` and `sendto` in C. All else on the machine disturbs them: the load is printed, and
+# `chrt -f 1 bench/relay.sh` gives every program of the trial the same advantage over it; but an idle relay has none,
+# since by a real-time policy its sleeps would end on time, which isn't how it runs.
 #
 # It builds no relay: `rt run` in crates/amt leaves the binary at crates/amt/out/amt. The programs of bench/relay are
 # compiled into a folder of its own. COMMAND is called with a settings file and `--workers W`; `loop` is the C loop in
