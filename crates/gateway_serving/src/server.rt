@@ -9,6 +9,7 @@ use amt_ports::OutLink;
 use amt_values::{Moment, Peer};
 use gateway_machine::Gateway;
 
+mod answering;
 mod control_lines;
 mod hearing;
 mod opening;
