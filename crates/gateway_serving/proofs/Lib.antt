@@ -1,4 +1,6 @@
 pub mod Lawful
+mod Answering
+mod Apart
 mod Beginning
 mod FewSends
 mod Lines
@@ -9,4 +11,5 @@ mod Starving
 mod Stepping
 mod Traces
 mod Trying
+mod Waiting
 mod WholeRuns

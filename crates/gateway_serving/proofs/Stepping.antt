@@ -57,9 +57,8 @@ step_does {before} {after} event middle tried sends packet all sends_by packet_b
     let wanted : map to_peer tried ++ [] ≡ wanted_sends setup earlier (event ∷ []) = ap (λ (list : List PeerSend). map to_peer list ++ []) (all ∙ sends_are before.server event sends sends_by) in
     let packets : delivery_to setup.deliver packet ≡ wanted_packets setup earlier (event ∷ []) =
     ap (delivery_to setup.deliver) (packet_is before.server event packet packet_by) ∙ sym (append-nil (delivered_to setup.deliver setup.settings setup.first earlier event)) in
-    let Sent : List (Peer × List ℕ) → List (Peer × List ℕ) → Type 0 = HasSent before.link after.link before.out after.out (counts_in before.server) (counts_in after.server) in
     work_does {clock = around.clock} {clock' = around.clock} (event ∷ []) [] 0 0 0 0 1 same events latest
-    (subst (Sent (wanted_sends setup earlier (event ∷ []))) packets (subst (λ (list : List (Peer × List ℕ)). Sent list (delivery_to setup.deliver packet)) wanted (HasSent-then sent handed)))
+    (HasSent-then sent handed wanted packets)
     (record {
       datagrams_are = omega (arith, ap (λ (counts : Counts). counts.datagrams) one, ap (λ (counts : Counts). counts.datagrams) two);
       controls_are = omega (arith, ap (λ (counts : Counts). counts.controls) one, ap (λ (counts : Counts). counts.controls) two);

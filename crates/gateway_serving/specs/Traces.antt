@@ -1,9 +1,9 @@
 -- What devices answer in a stage of a turn and what happens by that, and what it does to all that turns change.
 use Rattle.std.specs.Prelude.{◌≡◌, ℕ, ◌+◌, ◌*◌, ◌≤◌, ◌||◌, Bool, true, false, List, [], ◌∷◌, ◌++◌, count_by, length, map, sum_by, filter_map, Some, Option, Result}
 use Rattle.amt_ports.specs.{declared.{link.LinkAnswer.{LinkAnswer, TheVariants.{Closed as LinkClosed}}, end.End.{End, TheVariants.{LinkFault, FeedFault}}}, Answers.{Taken, unless_starved}, Bursts.{AnswerKinds, AskedSo, Asking}, Devices.{AnswersAll, LinkSeen, OutSeen, WaitsBriefly, WordsSeen}, Told.{AppendsAll}}
-use Rattle.gateway_machine.specs.declared.event.GatewayEvent.{GatewayEvent, TheVariants.{LeaveAll}}
+use Rattle.gateway_machine.specs.declared.event.GatewayEvent.{GatewayEvent}
 use Rattle.group_records.specs.declared.family.Family.{Family}
-use Rattle.gateway_serving.specs.{Askers.{IsUntried, askers_among}, Counting.{Tallies, bad_lines_taken, datagrams_heard, is_bad, is_datagram, is_starved_line, lines_taken, one_if, starved_in}, Events.{calls_in, datagrams_in, events_from, leave_events, moments_in, nonces_in}, Leaving.{Leaving, Stayed, Left, Refused, refused_leave}, Runs.{control_answers, link_answers, moments_given, words_drawn}}
+use Rattle.gateway_serving.specs.{Askers.{IsUntried, askers_among}, Counting.{Tallies, bad_lines_taken, datagrams_heard, is_bad, is_datagram, is_starved_line, lines_taken, one_if, starved_in}, Events.{calls_in, datagrams_in, events_from, leave_events, moments_in, nonces_in}, Leaving.{Leaving, refused_leave}, Runs.{control_answers, link_answers, moments_given, words_drawn}}
 use Rattle.gateway_serving.specs.{Servers.{counts_in, events_in, family_in, latest_in, setup_in, tally_in, wanted_packets, wanted_sends}, Taking.{HasSent}, Turns.{ControlAnswer, Turn, from_control, from_link, latest_of}, declared.{askers.Asker.{Asker}, server.Server.{Server}}}
 
 -- What was taken and heard: the events, the answers of each device, whether the link was asked, and what is counted
@@ -104,9 +104,7 @@ refusing number = record nothing { starved = number; tally = number }
 
 -- the end of a run
 abbrev pub leaving : Leaving → Trace
-leaving Stayed = nothing
-leaving Left = taking (LeaveAll ∷ [])
-leaving Refused = starving
+leaving left = record nothing { events = leave_events left; starved = refused_leave left; tally = length (leave_events left) + refused_leave left }
 
 -- what follows a whole turn
 abbrev pub ending : ℕ → Leaving → Trace
@@ -117,7 +115,7 @@ abbrev pub in_run : ℕ → List Turn → ℕ → Leaving → Trace
 in_run latest turns refused left = record (in_turns latest turns) {
   events = events_from latest turns ++ leave_events left;
   starved = sum_by starved_in turns + (refused + refused_leave left);
-  tally = 322 * length turns + (length (leave_events left) + refused_leave left);
+  tally = 258 * length turns + (refused + (length (leave_events left) + refused_leave left));
 }
 
 -- a gateway at work: itself, what is seen of its link, the longest wait of that, and what is seen of its out

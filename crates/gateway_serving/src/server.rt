@@ -10,7 +10,7 @@ use amt_values::{Moment, Peer};
 use gateway_machine::Gateway;
 
 mod answering;
-mod control_lines;
+mod control;
 mod hearing;
 mod opening;
 mod taking;
