@@ -4,6 +4,8 @@ mod Apart
 mod Beginning
 mod FewSends
 mod Lines
+mod NextDue
+mod OutcomeCounts
 mod Running
 mod Sending
 mod Stages

@@ -5,6 +5,7 @@ pub mod Courses
 pub mod Devices
 pub mod Events
 pub mod Leaving
+pub mod OutcomeWords
 pub mod Replies
 pub mod Reports
 pub mod Rounds
