@@ -1,5 +1,5 @@
 -- How the lines of a turn are answered after it.
-use Rattle.std.{proofs.{Common.{◌≡◌, ℕ, ◌+◌, ◌≤◌, ◌<◌, cond, Bool, true, false, List, [], ◌∷◌, ◌++◌, length, get_or, map, take, refl, sym, ap, subst, ◌∙◌, append-nil, arith, length-append}, lemmas.List.{length-map, map-append, take_more, Sums.{count_by-le-length, sum_by-append}}}, specs.Prelude.{Option, count_by}}
+use Rattle.std.{proofs.{Common.{◌≡◌, ℕ, ◌+◌, ◌≤◌, ◌<◌, cond, Bool, true, false, true≢false, List, [], ◌∷◌, ◌++◌, length, get_or, map, take, refl, sym, ap, subst, ◌∙◌, append-nil, arith, length-append}, lemmas.List.{length-map, map-append, take_more, Sums.{count_by-le-length, sum_by-append}}}, specs.Prelude.{Option, count_by}}
 use Rattle.amt_ports.{specs.{Devices.{LinkSeen, OutSeen}}, proofs.Waits.{no_waits}}
 use Rattle.control_lines.specs.Answer.{HasReplied}
 use Rattle.gateway_machine.specs.declared.event.GatewayEvent.TheVariants.{LeaveAll}
@@ -88,12 +88,14 @@ few_refused turns before after askers control control' each =
     omega (arith, few, many, ap length each.refuses.events, ap (λ (one : Counts). one.datagrams) is, ap (λ (one : Counts). one.controls) is, ap (λ (one : Counts). one.bad_controls) is, ap (λ (one : Counts). one.starved) is)
 
 -- what became of the leave
-pub leaves_not : (seen : AtWork) → LeavesSo false seen seen
-leaves_not seen = record { left = Stayed; is_left = tt; does = λ around. Does-none (record around { work = seen }) }
+pub leaves_not : (seen : AtWork) (asked : Bool) → asked ≡ false → LeavesSo asked seen seen
+leaves_not seen true is = absurd (true≢false is)
+leaves_not seen false is = record { left = Stayed; is_left = tt; does = λ around. Does-none (record around { work = seen }) }
 
-pub leaves_by : {before after : AtWork} (starved : Bool) → WorkDoes (offering starved LeaveAll) before after → LeavesSo true before after
-leaves_by true does = record { left = Refused; is_left = tt; does = does }
-leaves_by false does = record { left = Left; is_left = tt; does = does }
+pub leaves_by : {before after : AtWork} (asked starved : Bool) → asked ≡ true → WorkDoes (offering starved LeaveAll) before after → LeavesSo asked before after
+leaves_by false starved is does = absurd (true≢false (sym is))
+leaves_by true true is does = record { left = Refused; is_left = tt; does = does }
+leaves_by true false is does = record { left = Left; is_left = tt; does = does }
 
 -- no answer changed the devices but the control
 refused_does : {before after : Server} {link : LinkSeen} {wait : ℕ} {out : OutSeen} (number : ℕ) (control control' : LinkSeen) (control_wait control_wait' : ℕ) (askers : List Asker) → Refuses number before after
@@ -107,7 +109,8 @@ refused_does {before} {after} {link} {wait} {out} number control control' contro
       controls_are = omega (arith, ap (λ (one : Counts). one.controls) is);
       bad_are = omega (arith, ap (λ (one : Counts). one.bad_controls) is);
       starved_are = ap (λ (one : Counts). one.starved) is;
-    }) (with_control around (at_control (at_work before link wait out) control control_wait askers)) in record {
+    }) (with_control around (at_control (at_work before link wait out) control control_wait askers)) in
+    let few = alone.few in record {
       same = alone.same;
       events = alone.events;
       latest = alone.latest;
@@ -118,7 +121,7 @@ refused_does {before} {after} {link} {wait} {out} number control control' contro
       link = alone.link;
       control = unheard.same_coming;
       calm = alone.calm;
-      few = alone.few;
+      few = omega (arith, few);
       link_waits = alone.link_waits;
       control_waits = no_waits control_wait control_wait' unheard.same_wait;
       same_room = alone.same_room;
@@ -128,7 +131,7 @@ refused_does {before} {after} {link} {wait} {out} number control control' contro
 pub ends_turn : {before now : Server} {link : LinkSeen} {wait : ℕ} {out : OutSeen} {after : AtWork} {control control' : LinkSeen} {control_wait control_wait' : ℕ} {askers askers' : List Asker} {stops leaves : Bool} (turns : ℕ)
     → AnswersEach turns before now askers control control' → IsUnheard control control' control_wait control_wait' → stops ≡ ask_stop askers → leaves ≡ ask_leave askers → LeavesSo leaves (at_work now link wait out) after → askers' ≡ []
     → EndsTurnBy turns (at_control (at_work before link wait out) control control_wait askers) (at_control after control' control_wait' askers') stops
-ends_turn {control = control} {control' = control'} {control_wait = control_wait} {control_wait' = control_wait'} {askers = askers} {askers' = askers'} {after = after} turns each unheard stops_is leaves_is leaves none around = record {
+ends_turn {after = after} {control = control} {control' = control'} {control_wait = control_wait} {control_wait' = control_wait'} {askers = askers} {askers' = askers'} turns each unheard stops_is leaves_is leaves none around = record {
   round = each.round;
   to_askers = each.to_askers;
   answered = each.answered;

@@ -1,11 +1,13 @@
 //! How a running gateway answers the lines of a turn after it.
 ghost use Rattle.std.specs.Prelude.{◌≡◌, ◌<◌, ◌+◌, ◌^◌, IfOk, OnErr, OnOk, length};
-ghost use Rattle.amt_ports.specs.Devices.{link_at, out_at, words_at};
+ghost use Rattle.amt_ports.specs.Devices.{link_at, out_at};
 ghost use Rattle.control_lines.specs.Answer.{HasReplied};
 ghost use Rattle.gateway_serving.specs.{Answering.{AnswersEach, AnswersOne, IsUnheard, LeavesSo, waiting_in}, Askers.{IsUntried}, Replies.{reply_text}, Servers.{settings_in, setup_in, standing_in, tally_in}, Stages.{EndsTurnBy}, Traces.{at_control, at_work}};
 
 use super::Server;
 use crate::askers::{Asker, Askers};
+use crate::numbers::Numbers;
+use crate::replying::reply;
 use amt_ports::{Link, OutLink};
 use amt_values::Bytes;
 use control_lines::{GatewayAsking, answer_line};
@@ -15,7 +17,6 @@ use std::alloc::{AllocError, Global};
 
 impl Server {
     // What answers a line that was read so, after so many turns.
-    #[tactic(auto, unfolding(crate::specs::Replies::reply_text))]
     fn reply(
         &self,
         alloc: Global,
@@ -25,7 +26,8 @@ impl Server {
         ensures { IfOk result (λ text. text
             ≡ reply_text (settings_in self.now) (setup_in self.now).first (standing_in turns self.now) reading.now) }
     {
-        Ok(Bytes::new(alloc))
+        let numbers = Numbers::of(turns, &self.counts);
+        reply(alloc, &self.gateway, &numbers, &self.outcomes, reading)
     }
 
     // Tries to send the answer to whoever asked. Out of memory nothing is sent.

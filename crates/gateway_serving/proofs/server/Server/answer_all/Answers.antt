@@ -15,7 +15,7 @@ answer-requires g c =
 
 pub loop-asker-preserved : goal.loop-asker-preserved
 loop-asker-preserved g c = record {
-  answers = answers_more _ _ _ _ c.args.askers.now c.loop-asker.asker-index c.asker-item.result _ _ _ c.loop-asker-test.true c.asker-item.is c.loop-asker.invariant.answers c.answer.ensures.answers;
+  answers = let one = c.answer.ensures.answers in ?;
   unheard = unheard_then _ _ _ _ _ _ c.loop-asker.invariant.unheard c.answer.ensures.unheard;
 }
 
