@@ -1,5 +1,5 @@
 -- Lines that ask a gateway for something, and lines that don't.
-use Rattle.std.proofs.Common.{◌≡◌, ◌≤◌, ◌<◌, ◌+◌, ℕ, List, [], ◌∷◌, length, get_or, codes, inl, inr, refl, sym, ap, subst, arith}
+use Rattle.std.proofs.Common.{◌≡◌, ◌≤◌, ◌<◌, ◌+◌, ℕ, List, [], length, get_or, codes, inl, inr, refl, sym, ap, subst, arith}
 use Rattle.amt_values.specs.Conditions.{First}
 use Rattle.script_lines.{specs.{Lines.{IsPlain, fields}, declared.reason.Reason.{Reason}}, proofs.Firsts.{First-holds}}
 use Rattle.script_lines.specs.declared.reason.Reason.TheVariants as reasons
