@@ -3,7 +3,7 @@ use Rattle.std.{proofs.{Common.{◌≡◌, ℕ, ◌+◌, ◌≤◌, ◌<◌, con
 use Rattle.amt_ports.{specs.{Devices.{LinkSeen, OutSeen}}, proofs.Waits.{no_waits}}
 use Rattle.control_lines.specs.Answer.{HasReplied}
 use Rattle.gateway_machine.specs.declared.event.GatewayEvent.TheVariants.{LeaveAll}
-use Rattle.gateway_serving.specs.{Answering.{AnswersEach, AnswersOne, IsUnheard, LeavesSo, Refuses}, Askers.{HasAnswer, IsAnswered, IsUntried, Reply, answer_more, ask_leave, ask_stop, no_answer, refused_among, refusing_more}, Counting.{one_if}, Leaving.{IsLeaving, Leaving, Left, Refused, Stayed}, Replies.{Standing, reply_text}, Servers.{Setup, counts_in, events_in, latest_in, setup_in, standing_in, tally_in}}
+use Rattle.gateway_serving.specs.{Answering.{AnswersEach, AnswersOne, IsUnheard, LeavesSo, Refuses}, Askers.{HasAnswer, IsAnswered, IsUntried, Reply, answer_more, ask_leave, ask_stop, no_answer, refused_among, refusing_more}, Counting.{one_if}, Leaving.{IsLeaving, Leaving, AllLeft, LeaveRefused, Stayed}, Replies.{Standing, reply_text}, Servers.{Setup, counts_in, events_in, latest_in, setup_in, standing_in, tally_in}}
 use Rattle.gateway_serving.specs.{Stages.{EndsTurnBy}, Traces.{AtWork, Does, WorkDoes, World, at_control, at_work, offering, refusing, with_control}, declared.{askers.Asker.{Asker}, counts.Counts.{Counts}, server.Server.{Server}}}
 use Rattle.gateway_serving.proofs.Traces.{Does-none, Does-then, counted, with_askers}
 
@@ -49,16 +49,16 @@ refused_more round one =
     let all = sum_by-append (λ (reply : Reply). cond reply.starved 1 0) round (one ∷ []) in omega (arith, all)
 
 -- one more who asked
-pub answers_more : (turns : ℕ) (before now after : Server) (askers : List Asker) (place : ℕ) (asker : Asker) (control middle control' : LinkSeen) → place < length askers → asker ≡ get_or askers place asker
-    → AnswersEach turns before now (take place askers) control middle → AnswersOne turns now after asker middle control' → AnswersEach turns before after (take (place + 1) askers) control control'
-answers_more turns before now after askers place asker control middle control' within is each one =
-    let reply : Reply = record { asker = asker; starved = one.starved } in
+pub answers_more : (turns : ℕ) (before now after : Server) (askers : List Asker) (place : ℕ) (other : Asker) (control middle control' : LinkSeen) → place < length askers
+    → AnswersEach turns before now (take place askers) control middle → AnswersOne turns now after (get_or askers place other) middle control' → AnswersEach turns before after (take (place + 1) askers) control control'
+answers_more turns before now after askers place other control middle control' within each one =
+    let reply : Reply = record { asker = get_or askers place other; starved = one.starved } in
     let number = refused_among each.round in
     let stands = stands_since number turns before now each.refuses in
     let counts = counts_in before in
     let sum : (counts.starved + number) + one_if one.starved ≡ counts.starved + refused_among (each.round ++ reply ∷ []) = let all = refused_more each.round reply in omega (arith, all) in record {
       round = each.round ++ reply ∷ [];
-      to_askers = map-append (λ (other : Reply). other.asker) each.round (reply ∷ []) ∙ (λ i. each.to_askers i ++ is i ∷ []) ∙ sym (take_more askers place asker within);
+      to_askers = map-append (λ (told : Reply). told.asker) each.round (reply ∷ []) ∙ (λ i. each.to_askers i ++ reply.asker ∷ []) ∙ sym (take_more askers place other within);
       answered = answer_more each.round middle each.answered reply control'
           (subst (λ (at : Setup × Standing). IsAnswered at.0.settings at.0.first at.1 reply middle control') (λ i. (each.refuses.same i, stands i)) one.answer);
       refuses = record {
@@ -94,8 +94,8 @@ leaves_not seen false is = record { left = Stayed; is_left = tt; does = λ aroun
 
 pub leaves_by : {before after : AtWork} (asked starved : Bool) → asked ≡ true → WorkDoes (offering starved LeaveAll) before after → LeavesSo asked before after
 leaves_by false starved is does = absurd (true≢false (sym is))
-leaves_by true true is does = record { left = Refused; is_left = tt; does = does }
-leaves_by true false is does = record { left = Left; is_left = tt; does = does }
+leaves_by true true is does = record { left = LeaveRefused; is_left = tt; does = does }
+leaves_by true false is does = record { left = AllLeft; is_left = tt; does = does }
 
 -- no answer changed the devices but the control
 refused_does : {before after : Server} {link : LinkSeen} {wait : ℕ} {out : OutSeen} (number : ℕ) (control control' : LinkSeen) (control_wait control_wait' : ℕ) (askers : List Asker) → Refuses number before after

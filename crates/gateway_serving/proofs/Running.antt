@@ -4,8 +4,8 @@ use Rattle.amt_ports.{specs.{Answers.{Taken}, Causes.{Rose}, Devices.{LinkSeen},
 use Rattle.control_lines.specs.declared.asking_gateway.GatewayAsking.{GatewayAsking, TheVariants.{Counts, Show, Stop, StopLeave}}
 use Rattle.script_lines.specs.declared.reason.Reason.{Reason}
 use Rattle.gateway_machine.specs.{Settings.{family_of}, declared.event.GatewayEvent.{GatewayEvent}}
-use Rattle.gateway_serving.specs.{Askers.{AreAnswered, Reply, is_leave, is_stop, ask_leave, ask_stop, askers_of, refused_among}, Counting.{bad_lines_taken, datagrams_heard, lines_taken, starved_in}, Events.{events_from, events_of_turn, leave_events, nonces_in}, Leaving.{IsLeaving, Leaving, Left, Refused, Stayed, refused_leave}, Replies.{Standing}, Rounds.{AreRounds, no_round, round_more, unsent_of}, Runs.{GoOn, HasDone, IsCut, all_turns, moments_given, stopped}}
-use Rattle.gateway_serving.specs.{Servers.{Setup, counts_in, events_in, family_in, latest_in, setup_in, standing_in, wanted_packets, wanted_sends}, Stages.{EndsIn, EndsTurn, RunsSo, TurnsSo, standing_since}, Starving.{StarveWhereItSends}, Traces.{Does, World, ending, in_run, in_turns}, declared.askers.Asker.{Asker}}
+use Rattle.gateway_serving.specs.{Askers.{AreAnswered, Reply, is_leave, is_stop, ask_leave, ask_stop, askers_of, refused_among}, Counting.{bad_lines_taken, datagrams_heard, lines_taken, starved_in}, Events.{events_from, events_of_turn, leave_events, nonces_in}, Leaving.{IsLeaving, Leaving, AllLeft, LeaveRefused, Stayed, refused_leave}, Replies.{Standing}, Rounds.{AreRounds, no_round, round_more, unsent_of}, Runs.{GoOn, HasDone, IsCut, all_turns, moments_given, stopped}}
+use Rattle.gateway_serving.specs.{Servers.{Setup, counts_in, events_in, family_in, latest_in, setup_in, standing_in, tally_in, wanted_packets, wanted_sends}, Stages.{EndsIn, EndsTurn, EndsTurnBy, RunsSo, TurnsSo, standing_since}, Starving.{StarveWhereItSends}, Traces.{AtControl, Does, World, at_control, ending, in_run, in_turns, with_control}, declared.askers.Asker.{Asker}}
 use Rattle.gateway_serving.{specs.{Turns.{ControlAnswer, IsWhole, Turn, from_control, latest_of, moment_of_turn}}, proofs.{Stages.{no_error}, Starving.{AreStarved-same, StarveWhereItSends-more}, Traces.{Does-at, Does-none, Does-then, handed_by, latest_of-append, sent_by}, Trying.{HasSent-at, HasSent-then, all_tried, tried_at, tried_then, unsent_first}, Waiting.{few_among}}}
 
 -- the events of one turn more are those from where the others led
@@ -118,8 +118,8 @@ GoesOn true turns left = (earlier : List Turn) × (last : Turn) × (turns ≡ ea
 
 is_left : (left : Leaving) → IsLeaving false left → left ≡ Stayed
 is_left Stayed is = refl
-is_left Left is = absurd is
-is_left Refused is = absurd is
+is_left AllLeft is = absurd is
+is_left LeaveRefused is = absurd is
 
 -- who asks for the leave asks that the run ends
 leave_stops : (reading : Result GatewayAsking Reason) → is_stop reading ≡ false → is_leave reading ≡ false
@@ -207,7 +207,14 @@ module _ {before now after : World} {done : ℕ} {result : Result (Unit {0}) End
       subst (λ (all : List TriedSend × List TriedSend). Rounds all.0 all.1 run.turns run.rounds now.control) (λ i. (sent i, handed i)) (run.answered (sent_by next.does ++ sends) (handed_by next.does ++ packets))
 
 -- a whole turn more, and what followed it
-module _ {before now after last : World} {done : ℕ} {stops : Bool} (run : IsRunning before now done false) (next : TurnsSo now after (Ok tt)) (ends : EndsTurn (done + 1) after last stops) where
+module _ {before now after : World} {seen : AtControl} {done : ℕ} {stops : Bool} (run : IsRunning before now done false) (next : TurnsSo now after (Ok tt))
+    (ends_by : EndsTurnBy (done + 1) (at_control after.work after.control after.control_wait after.askers) seen stops) where
+  abbrev last : World
+  last = with_control after seen
+
+  abbrev ends : EndsTurn (done + 1) after last stops
+  ends = ends_by after
+
   abbrev all_turns_of : List Turn
   all_turns_of = run.turns ++ next.turn ∷ []
 
@@ -270,16 +277,35 @@ module _ {before now after last : World} {done : ℕ} {stops : Bool} (run : IsRu
     no_askers = ends.no_askers;
   }
 
+-- which goes on
+pub IsRunning-on : {before now after : World} {seen : AtControl} {done : ℕ} {stops : Bool} → IsRunning before now done false → TurnsSo now after (Ok tt)
+    → EndsTurnBy (done + 1) (at_control after.work after.control after.control_wait after.askers) seen stops → stops ≡ false → IsRunning before (with_control after seen) (done + 1) false
+IsRunning-on {before} {after = after} {seen = seen} {done = done} run next ends is = subst (λ (one : Bool). IsRunning before (with_control after seen) (done + 1) one) is (IsRunning-then run next ends)
+
+-- so much is counted at most
+pub few_running : {before now : World} {done : ℕ} → IsRunning before now done false → tally_in now.work.server ≤ tally_in before.work.server + 322 * done
+few_running {before} {now} {done} run =
+    let few = run.does.few in
+    let none : length (leave_events run.left) + refused_leave run.left ≡ 0 = ap (λ (left : Leaving). length (leave_events left) + refused_leave left) run.goes.1 in
+    omega (arith, few, none, run.few_refused, run.done_is)
+
+-- so many ask in a turn at most
+pub few_asking : {before now after : World} {done : ℕ} → IsRunning before now done false → TurnsSo now after (Ok tt) → length after.askers ≤ 64
+few_asking {now = now} run next =
+    let asked = ap length (next.asked ∙ ap (λ (list : List Asker). list ++ askers_of next.turn) run.no_askers) in
+    let lines = few_asked (from_control (family_in now.work.server)) FeedFault (Ok tt) next.turn.lines next.is_turn.control in
+    omega (arith, asked, few_among next.turn.lines, lines)
+
 -- the run is done with its turns
 runs_so : {before now : World} (turns : ℕ) {done : ℕ} {stops : Bool} (run : IsRunning before now done stops) → HasDone turns run.turns run.left → RunsSo turns before now Turns done
-runs_so {before} turns run ended = record {
+runs_so {before} {now} turns run ended = record {
   whole = run.turns;
   cut = None;
   rounds = run.rounds;
   left = run.left;
   does = run.does;
-  last = _;
-  answered = subst (λ (all : List TriedSend × List TriedSend). AreRounds (setup_in before.work.server).settings (setup_in before.work.server).first (standing_since before.work.server all.0 all.1) before.control run.turns run.rounds _)
+  last = now.control;
+  answered = subst (λ (all : List TriedSend × List TriedSend). AreRounds (setup_in before.work.server).settings (setup_in before.work.server).first (standing_since before.work.server all.0 all.1) before.control run.turns run.rounds now.control)
       (λ i. (append-nil (sent_by run.does) i, append-nil (handed_by run.does) i)) (run.answered [] []);
   untried = record { same_tried = refl; same_faults = refl };
   causes = EndsIn-calm Turns (λ is. cc is) (λ is. cc is) (λ is. cc is) run.calm;

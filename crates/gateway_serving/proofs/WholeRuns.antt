@@ -156,8 +156,8 @@ module _ {E : Type 0} (config : GatewayConfig) (turns word : ℕ) (before : Worl
       from_start (λ counts. counts.unsent) _ _ refl opening.sent.unsent_are
       ∙ (λ i. (opening.sent.sent.unsent_is i + opening.sent.handed.unsent_is i) + (unsent_of (wanted_sends (opened_set_up i) (past i) (since i)) sends + unsent_of (wanted_packets (opened_set_up i) (past i) (since i)) packets))
       ∙ pairs (unsent_count (sent_by opening)) (unsent_count (handed_by opening)) (unsent_of (wanted_sends setup first_happened new) sends) (unsent_of (wanted_packets setup first_happened new) packets)
-      ∙ (λ i. sent_count_then (~ i) + handed_count_then (~ i))
-      ∙ (λ i. unsent_of (sends_are (~ i)) (sent_by opening ++ sends) + unsent_of (packets_are (~ i)) (handed_by opening ++ packets)) in
+      ∙ (λ i. sym sent_count_then i + sym handed_count_then i)
+      ∙ (λ i. unsent_of (sym sends_are i) (sent_by opening ++ sends) + unsent_of (sym packets_are i) (handed_by opening ++ packets)) in
       let datagrams = from_start (λ counts. counts.datagrams) 0 (sum_by datagrams_heard some) refl opening.tallies.datagrams_are in
       let controls = from_start (λ counts. counts.controls) 0 (sum_by lines_taken some) refl opening.tallies.controls_are in
       let bad = from_start (λ counts. counts.bad_controls) 0 (sum_by bad_lines_taken some) refl opening.tallies.bad_are in
@@ -199,7 +199,7 @@ module _ {E : Type 0} (config : GatewayConfig) (turns word : ℕ) (before : Worl
         out_tried = tried_at all.sent.handed (λ i. wanted_packets (is.set_up i) (is.none i) (events_of run));
         last_answered = last;
         answered = subst (λ (tried : List TriedSend × List TriedSend). AreRounds (settings_by config) (nonce_of word) (stand_of config run tried.0 tried.1) before.control whole rounds last)
-            (λ i. (sent.0 (~ i), sent.1 (~ i)))
+            (λ i. (sym sent.0 i, sym sent.1 i))
             (subst (λ (stand : List Turn → ℕ → Standing). AreRounds (settings_by config) (nonce_of word) stand before.control whole rounds last) (λ i some refused. stands_by (sent_by does) (handed_by does) some refused i)
             (subst (λ (setup : Setup). AreRounds setup.settings setup.first (standing_since opened.server (sent_by does) (handed_by does)) before.control whole rounds last) opened_set_up answered));
         untried = untried;

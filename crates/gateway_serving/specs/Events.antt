@@ -3,7 +3,7 @@
 use Rattle.std.specs.{Prelude.{ℕ, ◌%◌, ◌^◌, max, List, [], ◌∷◌, ◌++◌, map, Option, None, Some}, List.{filter_map}}
 use Rattle.amt_ports.specs.{declared.link.LinkAnswer.{LinkAnswer, TheVariants.{Datagram as DatagramCame, Nothing as NothingCame, Closed as LinkClosed}}, Answers.{Taken, unless_starved}}
 use Rattle.gateway_machine.specs.declared.event.GatewayEvent.{GatewayEvent, TheVariants.{Datagram, LeaveAll, Moment, Nonce}}
-use Rattle.gateway_serving.specs.{Leaving.{Leaving, Stayed, Left, Refused}, Runs.{Run, turns_of}, Turns.{Asks, Bad, Called, Line, Starved, ControlAnswer, Turn, moment_of_turn}}
+use Rattle.gateway_serving.specs.{Leaving.{Leaving, Stayed, AllLeft, LeaveRefused}, Runs.{Run, turns_of}, Turns.{Asks, Bad, Called, Line, Starved, ControlAnswer, Turn, moment_of_turn}}
 
 -- a nonce is the low 32 bits of a word
 abbrev pub nonce_of : ℕ → ℕ
@@ -51,8 +51,8 @@ first_moment (moment ∷ later) = moment
 -- the last event of a run, where all sockets left their groups
 abbrev pub leave_events : Leaving → List GatewayEvent
 leave_events Stayed = []
-leave_events Left = LeaveAll ∷ []
-leave_events Refused = []
+leave_events AllLeft = LeaveAll ∷ []
+leave_events LeaveRefused = []
 
 abbrev pub events_of : Run → List GatewayEvent
 events_of run = run.begun ++ (events_from (first_moment run.moments) (turns_of run) ++ leave_events run.left)

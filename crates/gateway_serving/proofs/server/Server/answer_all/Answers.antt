@@ -15,7 +15,7 @@ answer-requires g c =
 
 pub loop-asker-preserved : goal.loop-asker-preserved
 loop-asker-preserved g c = record {
-  answers = let one = c.answer.ensures.answers in ?;
+  answers = answers_more _ _ _ _ c.args.askers.now c.loop-asker.asker-index _ _ _ _ c.loop-asker-test.true c.loop-asker.invariant.answers c.answer.ensures.answers;
   unheard = unheard_then _ _ _ _ _ _ c.loop-asker.invariant.unheard c.answer.ensures.unheard;
 }
 

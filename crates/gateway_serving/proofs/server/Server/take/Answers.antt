@@ -1,6 +1,6 @@
 use Rattle.std.proofs.{Common.{[], length, refl, sym, ap, ◌∙◌, append-nil, arith}, Props.{props}, lemmas.{Bool.{false≢true}, List.{length_push}, Result.{err_from_is_err_and}}}
 use Rattle.gateway_machine.specs.declared.settings.GatewaySettings.{GatewaySettings}
-use Rattle.gateway_serving.{specs.{Servers.{events_in}, declared.counts.Counts.{Counts}}, proofs.{OutcomeCounts.{IsTallied-few, IsTallied-step}, Stepping.{at_next, by_all, few_sent, step_does}, Traces.{Tallies-none, work_does}, Trying.{HasSent-none}}}
+use Rattle.gateway_serving.{specs.{Servers.{events_in, settings_in, setup_in}, declared.counts.Counts.{Counts}}, proofs.{OutcomeCounts.{IsTallied-few, IsTallied-step}, Stepping.{at_next, by_all, few_sent, step_does}, Traces.{Tallies-none, work_does}, Trying.{HasSent-none}}}
 use Rattle.amt_ports.proofs.Told.{AppendsAll-none}
 use Rattle.gateway_serving.proofs.server.Server.take.Goals as goal
 
@@ -16,7 +16,7 @@ returns-in_err-outcome-clause-needs_none g c needs =
 pub count-requires : goal.count-requires
 count-requires g c =
     let server = c.args.self.now in
-    record { few = IsTallied-few _ _ _ _ server.tallied (omega (arith, c.requires.few)) }
+    record { few = IsTallied-few (settings_in server) (setup_in server).first (events_in server) server.outcomes server.tallied (omega (arith, c.requires.few)) }
 
 pub send_all-requires : goal.send_all-requires
 send_all-requires g c =
