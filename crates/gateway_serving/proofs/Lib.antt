@@ -12,3 +12,4 @@ mod Stepping
 mod Traces
 mod Trying
 mod WholeRuns
+mod WordsOfReplays

@@ -4,7 +4,7 @@ use Rattle.amt_values.specs.{declared.{address.Ip.{Ip}, peer.Peer.{Peer}}, Text.
 use Rattle.control_lines.specs.{Answer.{bad_text}, Tally.{numbers_of, tally_text}, declared.asking_gateway.GatewayAsking.{GatewayAsking, TheVariants.{Counts, Show, Stop, StopLeave}}}
 use Rattle.gateway_machine.specs.{Answers.{is_idle}, Runs.{Run, run_of}, declared.{event.GatewayEvent.{GatewayEvent}, exchange.{Exchange.{Exchange}, GatewayState.{GatewayState, TheVariants.{Idle, Discovering, Requesting, Active}}}, settings.GatewaySettings.{GatewaySettings}}}
 use Rattle.script_lines.specs.{Texts.{mode_text}, declared.reason.Reason.{Reason}}
-use Rattle.socket_merge.specs.History.{Socket, open_sockets}
+use Rattle.socket_merge.specs.{History.{open_sockets}, declared.stored.Socket.{Socket}}
 use Rattle.gateway_serving.specs.{OutcomeWords.{outcome_words, words_said}, declared.numbers.Numbers.{Numbers}}
 
 -- Where a run stands after some whole turns: its events so far, how many turns there were, and what is counted.
