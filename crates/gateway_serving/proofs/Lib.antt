@@ -15,3 +15,4 @@ mod Traces
 mod Trying
 mod Waiting
 mod WholeRuns
+mod WordsOfReplays

@@ -46,13 +46,13 @@ impl Numbers {
     /// Those after so many whole turns.
     pub(crate) fn of(turns: u64, counts: &Counts) -> Numbers
         ensures { result ≡ record {
-            turns = turns;
-            datagrams = counts.now.datagrams;
-            controls = counts.now.controls;
-            bad_controls = counts.now.bad_controls;
-            delivered = counts.now.delivered;
-            unsent = counts.now.unsent;
-            starved = counts.now.starved;
+          turns = turns;
+          datagrams = counts.now.datagrams;
+          controls = counts.now.controls;
+          bad_controls = counts.now.bad_controls;
+          delivered = counts.now.delivered;
+          unsent = counts.now.unsent;
+          starved = counts.now.starved;
         } }
     {
         Numbers {

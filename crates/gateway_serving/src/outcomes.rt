@@ -1,5 +1,5 @@
 //! The words by which a running gateway counts what its events came to.
-ghost use Rattle.std.specs.{Prelude.{◌≡◌, ◌<◌, ◌++◌, [], Some, IfOk, OnOk, length}, List.{slice_get}};
+ghost use Rattle.std.specs.{Prelude.{◌≡◌, ◌<◌, ◌++◌, ℕ, List, [], Some, IfOk, OnOk, length}, List.{slice_get}};
 ghost use Rattle.control_lines.specs.Tally.{BeginsWithWord, numbers_of, tally_text};
 ghost use Rattle.gateway_machine.specs.declared.outcome.GatewayOutcome.{GatewayOutcome as OutcomeValue};
 ghost use Rattle.gateway_script.specs.Texts.{outcome_text};
@@ -104,12 +104,21 @@ impl Outcomes {
         Ok(Outcomes { tally })
     }
 
+    // Counts the word at this place.
+    fn count_at(&mut self, place: usize)
+        requires within { place < length outcome_words }
+        requires few { IsTallyOfFew self.old.tally }
+        ensures { (word : List ℕ) → slice_get outcome_words place ≡ Some word → HasCounted word self.old self.new }
+    {
+        self.tally.count(place);
+    }
+
     /// Counts an outcome.
     pub(crate) fn count(&mut self, outcome: &GatewayOutcome)
         requires few { IsTallyOfFew self.old.tally }
         ensures { HasCounted (word_of outcome.now) self.old self.new }
     {
-        self.tally.count(place_of(outcome));
+        self.count_at(place_of(outcome));
     }
 
     /// Puts a line for each word that came at the end.
