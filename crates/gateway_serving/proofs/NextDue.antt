@@ -1,5 +1,5 @@
 -- What is due next, as it is reported.
-use Rattle.std.{proofs.{Common.{◌≡◌, ℕ, ◌<◌, ◌≤◌, ◌^◌, ◌↔◌, ◌||◌, ◌⊎◌, max, nat_lt, Bool, true, false, List, Option, Some, None, if◌then◌else◌, inl, inr, refl, sym, ap, ◌∙◌, arith}, lemmas.Bool.{cases_lt, lt-ltb, ltb-true}}, specs.Prelude.{IsNone, IfSome}}
+use Rattle.std.{proofs.{Common.{◌≡◌, ℕ, ◌<◌, ◌≤◌, ◌^◌, ◌↔◌, ◌||◌, ◌⊎◌, max, nat_lt, Bool, true, false, List, Option, Some, None, if◌then◌else◌, inl, inr, refl, ap, arith}, lemmas.Bool.{cases_lt, lt-ltb, ltb-true}}, specs.Prelude.{IfSome}}
 use Rattle.socket_merge.specs.History.{AcceptedCall}
 use Rattle.gateway_machine.{specs.{Answers.{Answer, answer_at, is_idle, quiet}, Due.{IsBefore, IsDueAt}, Exchange.{moved}, Runs.{run_of}, declared.{event.GatewayEvent.{GatewayEvent}, exchange.Exchange.{Exchange}, outcome.GatewayOutcome.TheVariants.{Quiet}, settings.GatewaySettings.{GatewaySettings}}}, proofs.DueMoments.{awake-quiet}}
 use Rattle.gateway_serving.specs.Replies.{due_of, moment_of}

@@ -1,5 +1,5 @@
 -- What is shown of a run, part by part; and its counts.
-use Rattle.std.{proofs.Common.{◌≡◌, ℕ, List, [], ◌∷◌, ◌++◌, Option, flat_map, sym, ap, ◌∙◌, append_assoc}}
+use Rattle.std.{proofs.Common.{◌≡◌, ℕ, List, ◌++◌, Option, flat_map, sym, ap, ◌∙◌, append_assoc}}
 use Rattle.amt_values.specs.declared.peer.Peer.{Peer}
 use Rattle.control_lines.specs.Tally.{numbers_of, tally_text}
 use Rattle.gateway_machine.specs.{Runs.{Run}, declared.{event.GatewayEvent.{GatewayEvent}, exchange.GatewayState.{GatewayState}, settings.GatewaySettings.{GatewaySettings}}}
