@@ -8,6 +8,7 @@ mod NextDue
 mod OutcomeCounts
 mod Running
 mod Sending
+mod ShownRuns
 mod Stages
 mod Starving
 mod Stepping

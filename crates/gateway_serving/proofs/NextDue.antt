@@ -1,7 +1,7 @@
 -- What is due next, as it is reported.
-use Rattle.std.{proofs.{Common.{◌≡◌, ℕ, ◌<◌, ◌≤◌, ◌^◌, ◌↔◌, ◌||◌, ◌⊎◌, max, nat_lt, Bool, true, false, List, Option, Some, None, if◌then◌else◌, inl, inr, refl, sym, ap, ◌∙◌, arith}, lemmas.Bool.{cases_lt, lt-ltb, ltb-true}}, specs.Prelude.{IsNone, IfSome}}
+use Rattle.std.{proofs.{Common.{◌≡◌, ℕ, ◌<◌, ◌≤◌, ◌^◌, ◌↔◌, ◌||◌, ◌⊎◌, max, nat_lt, Bool, true, false, List, Option, Some, None, if◌then◌else◌, inl, inr, refl, ap, arith}, lemmas.Bool.{cases_lt, lt-ltb, ltb-true}}, specs.Prelude.{IfSome}}
 use Rattle.socket_merge.specs.History.{AcceptedCall}
-use Rattle.gateway_machine.{specs.{Answers.{Answer, answer_at, is_idle, quiet}, Due.{IsBefore}, Exchange.{moved}, declared.{exchange.Exchange.{Exchange}, outcome.GatewayOutcome.TheVariants.{Quiet}, settings.GatewaySettings.{GatewaySettings}}}, proofs.DueMoments.{awake-quiet}}
+use Rattle.gateway_machine.{specs.{Answers.{Answer, answer_at, is_idle, quiet}, Due.{IsBefore, IsDueAt}, Exchange.{moved}, Runs.{run_of}, declared.{event.GatewayEvent.{GatewayEvent}, exchange.Exchange.{Exchange}, outcome.GatewayOutcome.TheVariants.{Quiet}, settings.GatewaySettings.{GatewaySettings}}}, proofs.DueMoments.{awake-quiet}}
 use Rattle.gateway_serving.specs.Replies.{due_of, moment_of}
 
 -- a moment from this one on, if there is one
@@ -77,9 +77,20 @@ module _ (settings : GatewaySettings) (exchange : Exchange) (history : List Acce
           over (inr most) = most
 
   -- the moment that is due is the one that is reported
-  pub due_is : (due : Option ℕ) → IsDue due → IsFrom exchange.moment due → due ≡ due_of exchange
+  due_is : (due : Option ℕ) → IsDue due → IsFrom exchange.moment due → due ≡ due_of exchange
   due_is due is from = by (is_idle exchange.state) refl
     where
       by : (idle : Bool) → is_idle exchange.state ≡ idle → due ≡ (if idle then None else moment_of limit)
       by true idle = one_due exchange.moment IsStill due None is (none_due idle) from tt
       by false awake = awake_is due awake is from
+
+from_parts : (moment : ℕ) (due : Option ℕ) → IfSome due (λ at. moment ≤ at) → IfSome due (λ at. at < 2 ^ 62) → IsFrom moment due
+from_parts moment None onward small = tt
+from_parts moment (Some due) onward small = (onward, small)
+
+-- what a gateway says is due after these events is what is reported
+pub due_reported : (settings : GatewaySettings) (first : ℕ) (events : List GatewayEvent) (due : Option ℕ) → IsDueAt settings first events due
+    → IfSome due (λ at. (run_of settings first events).exchange.moment ≤ at) → IfSome due (λ at. at < 2 ^ 62) → due ≡ due_of (run_of settings first events).exchange
+due_reported settings first events due is onward small =
+    let run = run_of settings first events in
+    due_is settings run.exchange run.history due is (from_parts run.exchange.moment due onward small)

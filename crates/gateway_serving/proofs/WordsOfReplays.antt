@@ -1,5 +1,5 @@
 -- What a replay prints of an outcome begins with the word by which it is counted.
-use Rattle.std.proofs.Common.{◌≡◌, ◌++◌, ℕ, List, codes, decimal, inl, inr, refl}
+use Rattle.std.proofs.Common.{◌++◌, codes, decimal, inl, inr, refl}
 use Rattle.amt_values.specs.Text.{ip_text, peer_text}
 use Rattle.control_lines.specs.Tally.{BeginsWithWord}
 use Rattle.script_lines.specs.{FaultTexts.{head_text, inner_text, refusal_text, report_text}, Texts.{nonce_text}}

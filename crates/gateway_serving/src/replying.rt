@@ -1,7 +1,8 @@
 //! The texts by which a running gateway answers lines. It knows no device.
-ghost use Rattle.std.specs.Prelude.{◌≡◌, ◌++◌, flat_map, IfOk, OnOk};
+ghost use Rattle.std.specs.Prelude.{◌≡◌, ◌<◌, ◌^◌, [], ◌∷◌, ◌++◌, flat_map, IfOk, IfSome, OnOk};
 ghost use Rattle.control_lines.specs.{Answer.{bad_text}, Tally.{tally_text}};
 ghost use Rattle.gateway_machine.specs.Runs.{After};
+ghost use Rattle.script_lines.specs.Texts.{mode_text};
 ghost use Rattle.gateway_serving.specs.{OutcomeWords.{IsTallied, outcome_words}, Replies.{Standing, due_text, numbers_at, numbers_text, relay_text, reply_text, show_text, socket_text, sources_text, state_text, state_word}};
 
 use crate::numbers::Numbers;
@@ -11,6 +12,7 @@ use control_lines::{GatewayAsking, append_bad};
 use gateway_machine::{Gateway, GatewayState};
 use script_lines::{Reason, append_ip, append_numbered, append_peer, mode_word};
 use socket_merge::Socket;
+use source_filter::Filter;
 use std::alloc::{AllocError, Global};
 
 fn state_word(state: GatewayState) -> &'static str
@@ -44,7 +46,8 @@ fn append_relay(text: &mut Bytes, relay: &Option<Peer>) -> Result<(), AllocError
 }
 
 fn append_due(text: &mut Bytes, due: Option<Moment>) -> Result<(), AllocError>
-    ensures { OnOk result (text.new ≡ text.old ++ due_text due) }
+    ensures text { OnOk result (text.new ≡ text.old ++ due_text due) }
+    ensures small { IfSome due (λ moment. moment < 2 ^ 62) }
 {
     let Some(due) = due else {
         return text.append(b"due none\n");
@@ -64,6 +67,16 @@ fn append_sources(text: &mut Bytes, sources: &[Ip]) -> Result<(), AllocError>
     Ok(())
 }
 
+// The mode and the sources, which end a socket's line.
+fn append_filter(text: &mut Bytes, filter: &Filter) -> Result<(), AllocError>
+    ensures { OnOk result (text.new ≡ text.old
+        ++ (mode_text filter.now.mode ++ (sources_text filter.now.sources ++ 10 ∷ []))) }
+{
+    text.append(mode_word(filter.mode()).as_bytes())?;
+    append_sources(text, filter.sources())?;
+    text.append(b"\n")
+}
+
 // The line of a socket.
 #[tactic(auto, unfolding(crate::specs::Replies::socket_text))]
 fn append_socket(text: &mut Bytes, socket: &Socket) -> Result<(), AllocError>
@@ -74,9 +87,7 @@ fn append_socket(text: &mut Bytes, socket: &Socket) -> Result<(), AllocError>
     text.append(b" ")?;
     append_ip(text, &socket.group)?;
     text.append(b" ")?;
-    text.append(mode_word(socket.filter.mode()).as_bytes())?;
-    append_sources(text, socket.filter.sources())?;
-    text.append(b"\n")
+    append_filter(text, &socket.filter)
 }
 
 fn append_sockets(text: &mut Bytes, sockets: &[Socket]) -> Result<(), AllocError>
