@@ -1,5 +1,5 @@
 -- A line that makes a socket call doesn't begin as one that asks for something.
-use Rattle.std.proofs.{Common.{◌≡◌, ℕ, true, false, List, [], ◌∷◌, ◌++◌, codes, get_or, ⊎_elim, inl, inr, refl, sym, ap, subst, ◌∙◌, arith}, lemmas.Bool.{false≢true}}
+use Rattle.std.proofs.{Common.{◌≡◌, ℕ, true, List, [], ◌∷◌, codes, get_or, ⊎_elim, inl, inr, refl, sym, ap, subst, arith}, lemmas.Bool.{false≢true}}
 use Rattle.control_lines.specs.{Asking.{BeginsAsking, line_of}, AskingGateways.{AsksGateway, IsForAsking, asking_words}, declared.asking_gateway.GatewayAsking.{GatewayAsking, TheVariants.{Counts, Show, Stop, StopLeave}}}
 use Rattle.gateway_machine.specs.{Answers.{call_in}, declared.event.GatewayEvent.{GatewayEvent}}
 use Rattle.gateway_machine.specs.declared.event.GatewayEvent.TheVariants as events

@@ -1,5 +1,5 @@
 -- What becomes of one line of the control.
-use Rattle.std.{proofs.Common.{◌≡◌, Bool, true, false, List, [], ℕ, refl, sym, subst, append-nil, arith}, specs.Prelude.{Result}}
+use Rattle.std.{proofs.Common.{◌≡◌, Bool, true, false, List, ℕ, refl, sym, subst, append-nil, arith}, specs.Prelude.{Result}}
 use Rattle.amt_ports.specs.{Bursts.{AnswerKinds, AskedSo}, declared.end.End.{End}}
 use Rattle.amt_values.specs.declared.peer.Peer.{Peer}
 use Rattle.gateway_machine.specs.{Settings.{family_of}, declared.event.GatewayEvent.{GatewayEvent}}

@@ -1,5 +1,5 @@
 -- What the turns of a run come to together.
-use Rattle.std.{proofs.{Common.{◌≡◌, ℕ, ◌+◌, ◌*◌, ◌≤◌, ◌<◌, Bool, true, false, true≢false, ◌||◌, append-nil, List, [], ◌∷◌, ◌++◌, length, map, None, Some, Ok, Err, refl, sym, ap, subst, ◌∙◌, append_assoc, arith, length-append}, lemmas.{Grind.{flat_map-append}, List.{length-map, Elements.{All-nil, All-push}, Folds.{list_any-append}, Sums.{count_by-le-length, sum_by-append}}}}, specs.{Prelude.{All, Result, sum_by}, List.{list_any}}}
+use Rattle.std.{proofs.{Common.{◌≡◌, ℕ, ◌+◌, ◌*◌, ◌≤◌, ◌<◌, Bool, true, false, true≢false, ◌||◌, append-nil, List, [], ◌∷◌, ◌++◌, length, map, None, Some, Ok, Err, refl, sym, ap, subst, ◌∙◌, append_assoc, arith, length-append}, lemmas.{Grind.{flat_map-append}, List.{length-map, Elements.{All-nil, All-push}, Folds.{list_any-append}, Sums.{count_by-le-length, sum_by-append}}}}, specs.{Prelude.{All, Result, sum_by}}}
 use Rattle.amt_ports.{specs.{Answers.{Taken}, Causes.{Rose}, Devices.{LinkSeen}, Sends.{TriedSend}, EndCauses.{IsCauseOf, IsCausedBy}, declared.{link.LinkAnswer.{LinkAnswer}, end.End.{End, TheVariants.{Turns, LinkFault, FeedFault, WordsFault}}}}, proofs.Bursts.{few_asked}}
 use Rattle.control_lines.specs.declared.asking_gateway.GatewayAsking.{GatewayAsking, TheVariants.{Counts, Show, Stop, StopLeave}}
 use Rattle.script_lines.specs.declared.reason.Reason.{Reason}

@@ -1,7 +1,6 @@
 -- One event that a running gateway takes.
 use Rattle.std.{proofs.{Common.{◌≡◌, ◌≤◌, ℕ, List, [], ◌∷◌, ◌++◌, length, map, sym, ap, subst, ◌∙◌, append-nil, arith}, Math.Logic.{∥∥₁_elim, ∥∥₁_map}, Props.{props}, lemmas.List.{length-map}}, specs.Prelude.{Option}}
 use mathlib.Core.Sum.{⊎_set}
-use Rattle.amt_values.specs.declared.peer.Peer.{Peer}
 use Rattle.gateway_machine.specs.{Outcomes.{NeedsNoMemory}, Runs.{After, GatewayAt, answer_after, settings_of}, Sends.{datagram_of}, declared.{event.GatewayEvent.{GatewayEvent}, gateway.Gateway.{Gateway}, settings.GatewaySettings.{GatewaySettings}, step.PeerSend.{PeerSend}}}
 use Rattle.amt_ports.proofs.Told.{AppendsAll-none}
 use Rattle.gateway_serving.specs.{Courses.{events_so_far}, Sending.{delivered_to, delivery_to, to_peer}, Servers.{counts_in, events_in, latest_in, settings_in, setup_in, wanted_packets, wanted_sends}, Taking.{HasSent}, Traces.{AtWork, WorkDoes, taking}}

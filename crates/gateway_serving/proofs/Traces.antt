@@ -1,11 +1,10 @@
 -- What traces come to: one after the other, of the gateway alone, of what it sends, and of devices.
 use Rattle.std.{proofs.{Common.{◌≡◌, ℕ, ◌+◌, ◌≤◌, ◌||◌, max, cond, Bool, true, false, true≢false, List, [], ◌∷◌, ◌++◌, length, refl, sym, ap, subst, ◌∙◌, append_assoc, append-nil, length-append, arith}, Math.Nat.{le-max_right, max-le}, lemmas.List.{map-append, Elements.{filter_map-append}, Sums.{sum_by-append}}}, specs.Prelude.{Option, None, count_by}}
 use Rattle.amt_ports.{specs.{declared.{link.LinkAnswer.{LinkAnswer, TheVariants.{Closed as LinkClosed}}}, Answers.{Taken, unless_starved}, Sends.{TriedSend}, Devices.{AnswersAll, LinkSeen, OutSeen, WaitsBriefly, WordsSeen, link_seen, out_seen, words_seen}, Told.{AppendsAll}}, proofs.{Lists.{AnswersAll-then}, SoFar.{GoesOn}, Told.{AppendsAll-none, AppendsAll-then}, Waits.{no_waits, waits_then}}}
-use Rattle.amt_values.specs.declared.peer.Peer.{Peer}
 use Rattle.gateway_machine.specs.declared.event.GatewayEvent.{GatewayEvent}
 use Rattle.group_records.specs.declared.family.Family.{Family}
 use Rattle.gateway_serving.specs.{Askers.{IsUntried, asker_in, askers_among}, Counting.{Tallies, is_bad, is_datagram, is_starved_line, with_starved}, Events.{call_of, datagram_of}, Servers.{counts_in, events_in, latest_in, setup_in, wanted_packets, wanted_sends}, Taking.{HasSent}, Traces.{AtWork, Does, Reads, Trace, WorkDoes, World, and_then, at_server, at_work, by_control, by_link, hearing, nothing, starving, taking, world}}
-use Rattle.gateway_serving.{specs.{Turns.{ControlAnswer, latest_of}, declared.{askers.Asker.{Asker}, counts.Counts.{Counts}, server.Server.{Server}}}, proofs.{Sending.{delivered_after-append, sends_after-append}, Trying.{HasSent-at, HasSent-none, HasSent-then, tried_at, tried_then}}}
+use Rattle.gateway_serving.{specs.{Turns.{ControlAnswer, latest_of}, declared.{askers.Asker.{Asker}, counts.Counts.{Counts}, server.Server.{Server}}}, proofs.{Sending.{delivered_after-append, sends_after-append}, Trying.{HasSent-at, HasSent-none, HasSent-then}}}
 
 pub neither : (one other : Bool) → (one || other) ≡ false → (one ≡ false) × (other ≡ false)
 neither false other is = (refl, is)

@@ -1,5 +1,5 @@
 -- What is tried for sends and packets, and then for more.
-use Rattle.std.{proofs.{Common.{◌≡◌, ℕ, suc, ◌+◌, ◌<◌, ◌≤◌, cond, not, zero-add, length-append, Bool, true, false, List, [], ◌∷◌, ◌++◌, length, get_or, map, take, refl, sym, ap, subst, ◌∙◌, arith}, lemmas.List.{length-map, map-append, take_at, take_more, Sums.{sum_by-append, sum_by-cons}}}, specs.{Prelude.{IsSome, OnOk, Option, Some, Result, Ok, Err, is_ok}, List.{sum_by}}}
+use Rattle.std.{proofs.{Common.{◌≡◌, ℕ, suc, ◌+◌, ◌<◌, ◌≤◌, cond, not, zero-add, length-append, Bool, true, false, List, [], ◌∷◌, ◌++◌, length, get_or, map, take, refl, sym, ap, subst, ◌∙◌, arith}, lemmas.List.{length-map, map-append, take_at, take_more, Sums.{sum_by-append, sum_by-cons}}}, specs.{Prelude.{IsSome, OnOk, Option, Some, Result, Ok, Err, is_ok}}}
 use Rattle.amt_ports.{specs.{Causes.{HasCause}, Sends.{TriedSend, datagram_of, sent_count, tried_send, unsent_count}, Told.{Appends}, declared.fault.Failed.{Failed}, Devices.{LinkSeen, OutSeen}, Tried.{HasTried}}, proofs.{Told.{AppendsAll-then}, Trying.{HasTried-failed, HasTried-none, HasTried-sent, HasTried-then}}}
 use Rattle.amt_values.specs.declared.peer.Peer.{Peer}
 use Rattle.gateway_machine.specs.declared.step.PeerSend.{PeerSend}

@@ -1,6 +1,6 @@
 -- Those who are to be answered after a turn.
-use Rattle.std.{proofs.{Common.{◌≡◌, ◌<◌, ◌≤◌, ◌+◌, ℕ, List, [], ◌∷◌, ◌++◌, length, refl, ap, arith, length-append}}, specs.Prelude.{Option, None, Some}}
-use Rattle.std.specs.List.{cons_option, filter_map}
+use Rattle.std.{proofs.{Common.{◌≡◌, ◌<◌, ◌≤◌, ◌+◌, ℕ, List, [], ◌∷◌, ◌++◌, length, ap, arith, length-append}}, specs.Prelude.{Option, None, Some}}
+use Rattle.std.specs.List.{cons_option}
 use Rattle.gateway_serving.specs.{Askers.{asker_in, askers_among}, Turns.{ControlAnswer}, declared.askers.Asker.{Asker}}
 
 one_option : {X : Type 0} (one : Option X) (list : List X) → length (cons_option one list) ≤ length list + 1

@@ -1,8 +1,7 @@
 -- A whole run, put together.
 use Rattle.std.{proofs.Common.{◌≡◌, ◌≢◌, ℕ, ◌+◌, ◌*◌, max, true, List, [], ◌∷◌, ◌++◌, length, map, refl, sym, ap, subst, ◌∙◌, append-nil, zero-add, length-append, arith}, specs.Prelude.{All, Option, None, Ok, Err, Result, sum_by}}
 use Rattle.amt_config.specs.declared.config.{GatewayConfig.{GatewayConfig}, Join.{Join}}
-use Rattle.amt_ports.{specs.{Causes.{Rose}, Sends.{TriedSend, unsent_count}, Told.{AppendsAll}, declared.end.End.{End, TheVariants.{LinkFault, FeedFault, WordsFault, Memory}}, EndCauses.{IsCauseOf}, Devices.{LinkSeen, OutSeen, WordsSeen}, Tried.{HasTried}}, proofs.{Told.{AppendsAll-none}, Trying.{HasTried-none}}}
-use Rattle.amt_values.specs.declared.peer.Peer.{Peer}
+use Rattle.amt_ports.{specs.{Causes.{Rose}, Sends.{TriedSend, unsent_count}, Told.{AppendsAll}, declared.end.End.{End, TheVariants.{LinkFault, FeedFault, WordsFault, Memory}}, EndCauses.{IsCauseOf}, Devices.{LinkSeen, OutSeen, WordsSeen}}, proofs.{Told.{AppendsAll-none}, Trying.{HasTried-none}}}
 use Rattle.gateway_machine.specs.{Settings.{family_of}, declared.event.GatewayEvent.{GatewayEvent, TheVariants.{Moment}}}
 use Rattle.gateway_serving.specs.{Askers.{IsUntried, Reply, refused_among}, Counting.{bad_lines_taken, datagrams_heard, lines_taken, no_counts, starved_in}, Devices.{Devices, devices_seen}, Events.{events_from, events_of, leave_events, nonce_of}, Leaving.{Leaving, Stayed, refused_leave}, Replies.{Standing}, Rounds.{AreRounds, no_round, standing_after, unsent_of}}
 use Rattle.gateway_serving.specs.{Reports.{report_of}, Runs.{HasEnded, MayGo, Run, control_answers, link_answers, moments_of, refused_of, served, turns_of, undrawn, unmade, unopened, with_cut, words_of}, Servers.{IsFresh, Setup, counts_in, events_in, latest_in, setup_by, setup_in, wanted_packets, wanted_sends}, Serving.{Serves, stand_of}}
@@ -151,8 +150,8 @@ module _ {E : Type 0} (config : GatewayConfig) (turns word : ℕ) (before : Worl
       let sent_count_then = unsent_then (wanted_sends setup [] first_happened) (wanted_sends setup first_happened new) (sent_by opening) sends many_sent in
       let handed_count_then = unsent_then (wanted_packets setup [] first_happened) (wanted_packets setup first_happened new) (handed_by opening) packets many_handed in
       let unsent : (counts_in opened.server).unsent
-          + (unsent_of (wanted_sends (setup_in opened.server) (events_in opened.server) (events_from (latest_in opened.server) some)) sends + unsent_of (wanted_packets (setup_in opened.server) (events_in opened.server) (events_from (latest_in opened.server) some)) packets)
-          ≡ unsent_of (wanted_sends setup [] (first_happened ++ new)) (sent_by opening ++ sends) + unsent_of (wanted_packets setup [] (first_happened ++ new)) (handed_by opening ++ packets) =
+      + (unsent_of (wanted_sends (setup_in opened.server) (events_in opened.server) (events_from (latest_in opened.server) some)) sends + unsent_of (wanted_packets (setup_in opened.server) (events_in opened.server) (events_from (latest_in opened.server) some)) packets)
+      ≡ unsent_of (wanted_sends setup [] (first_happened ++ new)) (sent_by opening ++ sends) + unsent_of (wanted_packets setup [] (first_happened ++ new)) (handed_by opening ++ packets) =
       from_start (λ counts. counts.unsent) _ _ refl opening.sent.unsent_are
       ∙ (λ i. (opening.sent.sent.unsent_is i + opening.sent.handed.unsent_is i) + (unsent_of (wanted_sends (opened_set_up i) (past i) (since i)) sends + unsent_of (wanted_packets (opened_set_up i) (past i) (since i)) packets))
       ∙ pairs (unsent_count (sent_by opening)) (unsent_count (handed_by opening)) (unsent_of (wanted_sends setup first_happened new) sends) (unsent_of (wanted_packets setup first_happened new) packets)
@@ -217,6 +216,7 @@ module _ {E : Type 0} (config : GatewayConfig) (turns word : ℕ) (before : Worl
         control_cause = ends.control;
         words_cause = subst (λ (count : ℕ). IsCauseOf end WordsFault count after.words.faults) quiet ends.words;
       }
+
   -- memory refused a join
   pub serves_unopened : (error : E) → result ≡ Err error → Serves config turns (devices_of before) (devices_of begun) (report_of Memory 0 (counts_in opened.server))
   serves_unopened error failed =

@@ -1,5 +1,5 @@
 -- Those who send a running gateway a line that is answered, and how each is answered after the turn.
-use Rattle.std.specs.{Prelude.{◌≡◌, ℕ, ◌+◌, Bool, true, false, List, [], ◌∷◌, ◌++◌, count_by, map, Option, None, Some, Result, Ok, Err, if◌then◌else◌}, List.{filter_map, list_any}}
+use Rattle.std.specs.{Prelude.{◌≡◌, ℕ, ◌+◌, Bool, true, false, List, [], ◌∷◌, ◌++◌, count_by, Option, None, Some, Result, Ok, Err, if◌then◌else◌}, List.{filter_map, list_any}}
 use Rattle.amt_ports.specs.{Devices.{LinkSeen}, declared.link.LinkAnswer.{LinkAnswer, TheVariants.{Datagram, Nothing as NothingCame, Closed as LinkClosed}}}
 use Rattle.amt_values.specs.declared.peer.Peer.{Peer}
 use Rattle.control_lines.specs.{Answer.{HasReplied, is_answer}, declared.asking_gateway.GatewayAsking.{GatewayAsking, TheVariants.{Counts, Show, Stop, StopLeave}}}

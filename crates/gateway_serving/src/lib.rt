@@ -22,6 +22,7 @@ mod serving;
 mod settings;
 
 pub use outcomes::outcome_words_are_those_of_replays;
+pub use reading::no_line_calls_and_asks;
 pub use served::GatewayServed;
 pub use serving::serve_gateway;
 pub use settings::settings_of;

@@ -1,5 +1,9 @@
 //! What a running gateway reads a line of its control as.
-ghost use Rattle.std.specs.Prelude.{◌≡◌};
+ghost use Rattle.std.specs.Prelude.{◌≡◌, ℕ, List};
+ghost use Rattle.control_lines.specs.{AskingGateways.{AsksGateway}, declared.asking_gateway.GatewayAsking.{GatewayAsking as AskingValue}};
+ghost use Rattle.gateway_machine.specs.declared.event.GatewayEvent.{GatewayEvent as EventValue};
+ghost use Rattle.gateway_script.specs.SocketLine.{IsSocketLine};
+ghost use Rattle.group_records.specs.declared.family.Family.{Family as FamilyValue};
 ghost use Rattle.gateway_machine.specs.declared.settings.GatewaySettings.{GatewaySettings as SettingsValue};
 ghost use Rattle.gateway_serving.specs.{Answering.{MayHappen, line_by}, Turns.{MayBecome}};
 ghost use Rattle.socket_merge.specs.FullReport.{family_by};
@@ -40,3 +44,9 @@ pub(crate) fn read_line(alloc: Global, v6: bool, line: &[u8]) -> Reading
         Err(ScriptError::Fault { line: _, reason }) => Reading::Bad(reason),
     }
 }
+
+/// No line both makes a socket call and asks for something. It does nothing when it runs.
+pub fn no_line_calls_and_asks()
+    ensures { (family : FamilyValue) (event : EventValue) (asking : AskingValue) (octets : List ℕ)
+        → IsSocketLine family event octets → AsksGateway asking octets → ⊥ }
+{}

@@ -74,13 +74,7 @@ impl Server {
     }
 
     // All sockets leave their groups, where somebody asked for that.
-    fn leave<L: Link, O: OutLink>(
-        &mut self,
-        alloc: Global,
-        asked: bool,
-        link: &mut L,
-        out: &mut O,
-    )
+    fn leave<L: Link, O: OutLink>(&mut self, alloc: Global, asked: bool, link: &mut L, out: &mut O)
         requires few { tally_in self.old < 2 ^ 61 }
         ensures leaves { LeavesSo asked
             (at_work self.old (link_at L.Link link.old) (L.longest_wait link.old) (out_at O.OutLink out.old))

@@ -1,4 +1,4 @@
-use Rattle.std.proofs.{Common.{List, length, take, arith, subst}, lemmas.List.{take_all}}
+use Rattle.std.proofs.{Common.{List, arith, subst}, lemmas.List.{take_all}}
 use Rattle.std.proofs.Math.ListN.{length-take}
 use Rattle.amt_ports.specs.Devices.{link_at}
 use Rattle.gateway_serving.{specs.{Answering.{AnswersEach}, declared.askers.Asker.{Asker}}, proofs.Answering.{answers_more, answers_none, few_refused, unheard_none, unheard_then}}

@@ -1,4 +1,4 @@
-use Rattle.std.proofs.Common.{List, length, ap, sym, subst, arith}
+use Rattle.std.proofs.Common.{List, length, ap, subst, arith}
 use Rattle.amt_ports.specs.Devices.{link_at}
 use Rattle.gateway_serving.{specs.{Answering.{AnswersEach}, declared.askers.Asker.{Asker}}, proofs.Answering.{ends_turn, few_refused}}
 use Rattle.gateway_serving.proofs.server.Server.end_turn.Goals as goal

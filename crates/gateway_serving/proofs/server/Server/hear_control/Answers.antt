@@ -1,4 +1,4 @@
-use Rattle.std.proofs.{Common.{◌≡◌, ◌+◌, ◌*◌, ◌≤◌, length, ap, arith}, lemmas.Result.{err_from_is_err_and}}
+use Rattle.std.proofs.{Common.{◌+◌, ◌*◌, ◌≤◌, length, arith}, lemmas.Result.{err_from_is_err_and}}
 use Rattle.amt_ports.proofs.SoFar.{all_asked, none_asked, one_more, then_ends, then_nothing}
 use Rattle.gateway_serving.{specs.{Servers.{family_in, tally_in}, Traces.{by_control}}, proofs.{Lines.{same_family}, Traces.{alone, none_read, reads_on}, Waiting.{few_askers}}}
 use Rattle.gateway_serving.proofs.server.Server.hear_control.Goals as goal

@@ -1,5 +1,5 @@
 -- Each asking so far found a line.
-use Rattle.std.proofs.Common.{◌≤◌, length}
+use Rattle.std.proofs.Common.{length}
 use Rattle.amt_ports.{specs.Devices.{link_at, out_at}, proofs.SoFar.{SoFar}}
 use Rattle.gateway_serving.specs.{Answering.{waiting_in}, Servers.{family_in}, Traces.{World, at_control, at_work, by_control, with_control}}
 use Rattle.gateway_serving.proofs.server.Server.hear_control.Given as goal

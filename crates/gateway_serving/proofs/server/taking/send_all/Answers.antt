@@ -1,5 +1,4 @@
-use Rattle.std.proofs.{Common.{[], List, ℕ, map, refl, subst, ◌∙◌, arith}, lemmas.List.{take_all}}
-use Rattle.amt_values.specs.declared.peer.Peer.{Peer}
+use Rattle.std.proofs.{Common.{[], List, map, refl, subst, ◌∙◌, arith}, lemmas.List.{take_all}}
 use Rattle.gateway_machine.specs.declared.step.PeerSend.{PeerSend}
 use Rattle.amt_ports.specs.Devices.{link_at}
 use Rattle.gateway_serving.{specs.{Sending.{to_peer}, Taking.{HasSent}}, proofs.Trying.{HasSent-none, HasSent-then, few_more, keeps, sends_more, sent_one}}
