@@ -23,7 +23,7 @@ MayHappen settings (Asking asking) = Unit {0}
 MayHappen settings (BadLine reason) = Unit {0}
 MayHappen settings StarvedLine = Unit {0}
 
--- memory refused so many answers, and nothing else changed
+-- memory refused this number of answers, and nothing else changed
 pub record Refuses (number : ℕ) (before after : Server) : Type 0 where
   pub same : setup_in after ≡ setup_in before
   pub events : events_in after ≡ events_in before

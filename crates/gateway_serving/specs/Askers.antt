@@ -28,7 +28,7 @@ askers_among lines = filter_map (λ one. asker_in one.answer one.line) lines
 abbrev pub askers_of : Turn → List Asker
 askers_of turn = askers_among turn.lines
 
--- the run is to end
+-- the line asks that the run ends
 abbrev pub is_stop : Result GatewayAsking Reason → Bool
 is_stop (Ok Counts) = false
 is_stop (Ok Show) = false
@@ -36,7 +36,7 @@ is_stop (Ok Stop) = true
 is_stop (Ok StopLeave) = true
 is_stop (Err reason) = false
 
--- and all sockets are to leave their groups before
+-- and that all sockets leave their groups before
 abbrev pub is_leave : Result GatewayAsking Reason → Bool
 is_leave (Ok Counts) = false
 is_leave (Ok Show) = false
@@ -44,7 +44,7 @@ is_leave (Ok Stop) = false
 is_leave (Ok StopLeave) = true
 is_leave (Err reason) = false
 
--- somebody asked for that
+-- somebody asks for that
 abbrev pub ask_stop : List Asker → Bool
 ask_stop askers = list_any (λ one. is_stop one.reading) askers
 
@@ -59,11 +59,11 @@ pub record Reply : Type 0 where
 abbrev pub refused_among : List Reply → ℕ
 refused_among replies = count_by (λ one. one.starved) replies
 
--- where memory refused so many answers more
+-- the same, with this number of refused answers more
 abbrev pub refusing_more : ℕ → Standing → Standing
 refusing_more number standing = record standing { starved = standing.starved + number }
 
--- the link tried to send nothing in between
+-- nothing was tried in between
 pub record IsUntried (before after : LinkSeen) : Type 0 where
   pub same_tried : after.tried ≡ before.tried
   pub same_faults : after.send_faults ≡ before.send_faults
@@ -77,7 +77,7 @@ module _ (settings : GatewaySettings) (first : ℕ) where
   abbrev pub IsAnswered : Standing → Reply → LinkSeen → LinkSeen → Type 0
   IsAnswered standing one before after = HasAnswer one.starved one.asker.from (reply_text settings first standing one.asker.reading) before after
 
-  -- one after the other, where memory refused some of those before
+  -- one after the other, each by where the run stands then: a refused answer counts at once
   pub data AreAnswered (standing : Standing) (start : LinkSeen) : List Reply → LinkSeen → Type 0 where
     no_answer : AreAnswered standing start [] start
     answer_more : (replies : List Reply) (now : LinkSeen) → AreAnswered standing start replies now

@@ -5,16 +5,16 @@ use Rattle.amt_values.specs.declared.peer.Peer.{Peer}
 use Rattle.gateway_machine.specs.declared.{event.GatewayEvent.{GatewayEvent}, settings.GatewaySettings.{GatewaySettings}}
 use Rattle.gateway_serving.specs.{Askers.{AreAnswered, IsUntried, Reply, askers_of, refused_among}, Counting.{bad_lines_taken, datagrams_heard, lines_taken, starved_in}, Events.{events_from}, Replies.{Standing}, Servers.{Setup, wanted_packets, wanted_sends}, Turns.{Turn}}
 
--- how many of the first sends, one for each that was wanted, weren't taken
+-- as many of the first sends as are wanted here: how many of those weren't taken
 abbrev pub unsent_of : List (Peer × List ℕ) → List TriedSend → ℕ
 unsent_of wanted tried = unsent_count (take (length wanted) tried)
 
--- By the setup, the events before the first turn, the latest moment then, and what link and out tried in all of the run.
+-- By the setup, the events before the first turn, the latest moment then, and all that link and out tried in the run.
 module _ (setup : Setup) (begun : List GatewayEvent) (latest : ℕ) (sends packets : List TriedSend) where
   abbrev pub events_by : List Turn → List GatewayEvent
   events_by turns = begun ++ events_from latest turns
 
-  -- where the run stands after these whole turns, if memory refused so many answers to lines before
+  -- where the run stands after these whole turns; memory refused this number of answers to lines of earlier ones
   abbrev pub standing_after : List Turn → ℕ → Standing
   standing_after turns refused = record {
     events = events_by turns;
@@ -28,7 +28,7 @@ module _ (setup : Setup) (begun : List GatewayEvent) (latest : ℕ) (sends packe
   }
 
 module _ (settings : GatewaySettings) (first : ℕ) (stand : List Turn → ℕ → Standing) where
-  -- after a turn, where the run stands so: nothing was tried in it, and then exactly those were answered who asked
+  -- by the control nothing was tried in the turn; then exactly those who asked in it were answered, each alone
   pub record IsRound (standing : Standing) (turn : Turn) (round : List Reply) (before after : LinkSeen) : Type 0 where
     pub heard : LinkSeen
     pub untried : IsUntried before heard

@@ -37,7 +37,7 @@ abbrev pub tally_in : Server → ℕ
 tally_in server =
     length (events_in server) + ((counts_in server).datagrams + ((counts_in server).controls + ((counts_in server).bad_controls + (counts_in server).starved)))
 
--- where it stands after so many turns
+-- where it stands after this number of turns
 abbrev pub standing_in : ℕ → Server → Standing
 standing_in turns server = record {
   events = events_in server;

@@ -113,8 +113,8 @@ pub record EndsTurn (turns : ℕ) (before after : World) (stops : Bool) : Type 0
 abbrev pub EndsTurnBy : ℕ → AtControl → AtControl → Bool → Type 0
 EndsTurnBy turns before after stops = (around : World) → EndsTurn turns (with_control around before) (with_control around after) stops
 
--- where a gateway stands after these whole turns, if it stood so before the first of them, by what link and out tried
--- since, and if memory refused so many answers to lines
+-- where a gateway stands after these whole turns, by where it stood before the first of them and what link and out
+-- tried since; memory refused this number of answers to lines of earlier ones
 abbrev pub standing_since : Server → List TriedSend → List TriedSend → List Turn → ℕ → Standing
 standing_since server sends packets turns refused = record {
   events = events_in server ++ events_from (latest_in server) turns;

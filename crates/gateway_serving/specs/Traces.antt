@@ -98,7 +98,7 @@ in_turns latest turns = record {
   tally = 258 * length turns;
 }
 
--- memory refused so many answers to lines
+-- memory refused this number of answers to lines
 abbrev pub refusing : ℕ → Trace
 refusing number = record nothing { starved = number; tally = number }
 
