@@ -67,10 +67,7 @@ fn assert_turns(rt: &impl Abort, turns: u64)
 }
 
 /// The devices of a gateway. What the script feeds is what comes to the control.
-pub fn devices_of(
-    alloc: Global,
-    script: &Script,
-) -> Result<Devices<MemLink, MemLink>, AllocError> {
+pub fn devices_of(alloc: Global, script: &Script) -> Result<Devices<MemLink, MemLink>, AllocError> {
     let Devices {
         link,
         feed: _,

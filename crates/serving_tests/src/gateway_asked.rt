@@ -17,16 +17,17 @@ const THREE_TURNS: Script<'static> = Script {
 
 // The first moment and the join came before the first turn; it draws a nonce, its moment changes nothing, and the Query
 // is accepted.
-const COUNTS: &str = "turns 1\ndatagrams 1\ncontrols 1\nbad_controls 0\ndelivered 0\nunsent 0\nstarved 0\n\
+const COUNTS: &str =
+    "turns 1\ndatagrams 1\ncontrols 1\nbad_controls 0\ndelivered 0\nunsent 0\nstarved 0\n\
 = quiet 2\n= drawn 1\n= requesting 1\n= active 1\n. 1\n";
 
 // A line more made a call.
-const COUNTS_AFTER_A_CALL: &str = "turns 1\ndatagrams 1\ncontrols 2\nbad_controls 0\ndelivered 0\nunsent 0\nstarved 0\n\
+const COUNTS_AFTER_A_CALL: &str =
+    "turns 1\ndatagrams 1\ncontrols 2\nbad_controls 0\ndelivered 0\nunsent 0\nstarved 0\n\
 = quiet 2\n= drawn 1\n= requesting 1\n= active 1\n= changed 1\n. 1\n";
 
 // The Query asks for reports each 125 seconds.
-const SHOWN: &str =
-    "state active\nrelay 192.0.2.77:2268\ndue 125000\n* b 239.1.1.2 exclude\n. 1\n";
+const SHOWN: &str = "state active\nrelay 192.0.2.77:2268\ndue 125000\n* b 239.1.1.2 exclude\n. 1\n";
 
 // What comes to the control, the answers, the turns that were done, and the datagrams that the link was given.
 #[derive(Clone, Copy)]
@@ -195,7 +196,11 @@ fn a_line_is_answered_to_whoever_sent_it(rt: HostRuntime) {
         let Ok((report, devices)) = ask(&rt, rt.alloc(), row.lines) else {
             panic!(rt; "out of memory");
         };
-        assert_eq!(rt; (report.end, report.turns), (End::Turns, row.turns), "{what}");
+        assert_eq!(rt;
+            (report.end, report.turns),
+            (End::Turns, row.turns),
+            "{what}"
+        );
         assert_answers(&rt, what, devices.feed.tried(), row.answers);
         assert_eq!(rt; devices.link.tried().len(), row.sends, "{what}");
     }
@@ -213,7 +218,10 @@ fn a_line_that_asks_is_not_a_bad_one(rt: HostRuntime) {
     let Ok((report, _devices)) = ask(&rt, rt.alloc(), lines.as_slice()) else {
         panic!(rt; "out of memory");
     };
-    assert_eq!(rt; (report.controls, report.bad_controls, report.starved), (2, 1, 0));
+    assert_eq!(rt;
+        (report.controls, report.bad_controls, report.starved),
+        (2, 1, 0)
+    );
 }
 
 #[test]
@@ -221,7 +229,10 @@ fn a_turn_that_is_not_whole_answers_nobody(rt: HostRuntime) {
     let Ok((report, devices)) = ask(&rt, rt.alloc(), &[Answer::Line("counts\n")]) else {
         panic!(rt; "out of memory");
     };
-    assert_eq!(rt; (report.end, report.turns, report.controls), (End::Closed, 0, 1));
+    assert_eq!(rt;
+        (report.end, report.turns, report.controls),
+        (End::Closed, 0, 1)
+    );
     assert!(rt; devices.feed.tried().is_empty());
 }
 
@@ -249,7 +260,10 @@ fn each_asker_is_answered_alone_and_an_answer_that_is_not_taken_is_not_counted(r
         panic!(rt; "out of memory");
     };
     let report = serve_over(&rt, rt.alloc(), &mut devices);
-    assert_eq!(rt; (report.end, report.turns, report.unsent), (End::Turns, 1, 0));
+    assert_eq!(rt;
+        (report.end, report.turns, report.unsent),
+        (End::Turns, 1, 0)
+    );
     let [first, second] = devices.feed.tried() else {
         panic!(rt; "not two");
     };
@@ -271,6 +285,9 @@ fn a_turn_answers_64_lines_and_leaves_the_next_to_the_one_after_it(rt: HostRunti
     let Ok((report, devices)) = ask(&rt, rt.alloc(), lines.as_slice()) else {
         panic!(rt; "out of memory");
     };
-    assert_eq!(rt; (report.turns, report.controls, report.bad_controls), (2, 65, 64));
+    assert_eq!(rt;
+        (report.turns, report.controls, report.bad_controls),
+        (2, 65, 64)
+    );
     assert_eq!(rt; devices.feed.tried().len(), 65);
 }
