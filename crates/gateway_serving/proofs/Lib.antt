@@ -1,12 +1,19 @@
 pub mod Lawful
+mod Answering
+mod Apart
 mod Beginning
 mod FewSends
 mod Lines
+mod NextDue
+mod OutcomeCounts
 mod Running
 mod Sending
+mod ShownRuns
 mod Stages
 mod Starving
 mod Stepping
 mod Traces
 mod Trying
+mod Waiting
 mod WholeRuns
+mod WordsOfReplays

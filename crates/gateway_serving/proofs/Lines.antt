@@ -1,21 +1,25 @@
--- What becomes of one line of the control feed.
-use Rattle.std.{proofs.Common.{◌≡◌, Bool, true, false, List, ℕ, refl, subst, arith}, specs.Prelude.{Result}}
+-- What becomes of one line of the control.
+use Rattle.std.{proofs.Common.{◌≡◌, Bool, true, false, List, ℕ, refl, sym, subst, append-nil, arith}, specs.Prelude.{Result}}
 use Rattle.amt_ports.specs.{Bursts.{AnswerKinds, AskedSo}, declared.end.End.{End}}
+use Rattle.amt_values.specs.declared.peer.Peer.{Peer}
 use Rattle.gateway_machine.specs.{Settings.{family_of}, declared.event.GatewayEvent.{GatewayEvent}}
-use Rattle.gateway_serving.{specs.{Servers.{Setup, family_in}, Stages.{ReadsLine}, Traces.{AtWork, WorkDoes, World, by_control, nothing, offering}, Turns.{Called, ControlAnswer, MayBecome, Starved}}, proofs.Traces.{Does-at, Does-then}}
+use Rattle.gateway_serving.specs.{Servers.{Setup, family_in}, Stages.{ReadsLine}, Traces.{AtWork, WorkDoes, World, by_control, nothing, offering}, Turns.{Called, ControlAnswer, MayBecome, Starved}, declared.askers.Asker.{Asker}}
+use Rattle.gateway_serving.proofs.{Apart.{calls_dont_ask}, Traces.{Does-at, Does-then}}
 
 -- it makes a socket call, which memory took, or refused
-pub line_called : {before counted after : AtWork} (bytes : List ℕ) (event : GatewayEvent) (starved : Bool) → MayBecome (family_in before.server) bytes (Called event)
-    → WorkDoes (record nothing { controls = 1; tally = 1 }) before counted → WorkDoes (offering starved event) counted after → ReadsLine bytes before after
-line_called bytes event false is counts offers = record {
+pub line_called : {before counted after : AtWork} (from : Peer) (bytes : List ℕ) (event : GatewayEvent) (askers : List Asker) (starved : Bool) → MayBecome (family_in before.server) bytes (Called event)
+    → WorkDoes (record nothing { controls = 1; tally = 1 }) before counted → WorkDoes (offering starved event) counted after → ReadsLine from bytes before after askers askers
+line_called from bytes event askers false is counts offers = record {
   line = Called event;
   may = is;
   does = λ around. Does-at (Does-then (counts around) (offers around)) refl refl refl refl refl (λ _. refl) refl refl refl refl (omega arith);
+  asked = sym (append-nil askers);
 }
-line_called bytes event true is counts offers = record {
+line_called {before} from bytes event askers true is counts offers = record {
   line = Starved;
-  may = tt;
+  may = calls_dont_ask (family_in before.server) event bytes is;
   does = λ around. Does-at (Does-then (counts around) (offers around)) refl refl refl refl refl (λ _. refl) refl refl refl refl (omega arith);
+  asked = sym (append-nil askers);
 }
 
 -- the family is that of the settings, which stay

@@ -1,10 +1,10 @@
 -- What the stages of a turn come to together.
 use Rattle.std.{proofs.{Common.{◌≡◌, ℕ, ◌+◌, ◌*◌, ◌≤◌, max, true, List, [], ◌∷◌, ◌++◌, length, ⊎_elim, Result, Ok, Err, Option, refl, sym, ap, subst, ◌∙◌, append_assoc, append-nil, arith}, lemmas.List.{Elements.{All-cons, All-nil}, Sums.{sum_by-cons}}}, specs.Prelude.{IsErrOf, Some, filter_map}}
-use Rattle.amt_ports.{specs.{declared.{link.LinkAnswer.{LinkAnswer}, end.End.{End, TheVariants.{Closed, LinkFault, FeedFault, WordsFault}}}, Answers.{Taken, unless_starved}, Bursts.{IsBegun, IsClosed, AreAsked}, Devices.{FeedSeen, LinkSeen, OutSeen, WordsSeen}, Told.{Appends}}, proofs.{EndCauses.{not_cause, same_cause}, Bursts.{few_asked, no_other}}}
+use Rattle.amt_ports.{specs.{declared.{link.LinkAnswer.{LinkAnswer}, end.End.{End, TheVariants.{Closed, LinkFault, FeedFault, WordsFault}}}, Answers.{Taken, unless_starved}, Bursts.{IsBegun, IsClosed, AreAsked}, Devices.{LinkSeen, OutSeen, WordsSeen}, Told.{Appends}}, proofs.{EndCauses.{not_cause, same_cause}, Bursts.{few_asked, no_other}}}
 use Rattle.gateway_machine.specs.{Outcomes.{IsAtRest}, Runs.{answer_after}, Settings.{family_of}, declared.{event.GatewayEvent.{GatewayEvent, TheVariants.{Moment, Nonce}}, outcome.GatewayOutcome.{GatewayOutcome}}}
 use Rattle.group_records.specs.declared.family.Family.{Family}
 use Rattle.gateway_serving.specs.{Counting.{Tallies, bad_lines_taken, datagrams_heard, lines_taken, starved_in}, Events.{moments_in, nonce_of}, Runs.{IsCut, of_control, of_link}, Servers.{Setup, counts_in, events_in, family_in, latest_in, setup_in, tally_in}, Stages.{BeginsBy, IsTurnBy, OffersSo, PassesMoment, TurnsSo}, Starving.{SendsAt}}
-use Rattle.gateway_serving.{specs.{Traces.{AtWork, Does, HearsSo, ReadsSo, WorkDoes, World, at_work, beginning, hearing, in_turns, reading, taking, world}, Turns.{ControlAnswer, HasBegun, HasHeard, Turn, from_control, from_link}, declared.server.Server.{Server}}, proofs.{Starving.{SendsAt-same}, Traces.{Does-at, Does-none, Does-then, IsAlike, alone, drew, none_heard, server_does}}}
+use Rattle.gateway_serving.{specs.{Traces.{AtControl, AtWork, Does, HearsSo, ReadsSo, WorkDoes, World, at_control, at_work, beginning, hearing, in_turns, reading, taking, with_control}, Turns.{ControlAnswer, HasBegun, HasHeard, Turn, from_control, from_link}, declared.server.Server.{Server}}, proofs.{Starving.{SendsAt-same}, Traces.{Does-at, Does-none, Does-then, IsAlike, alone, drew, none_heard, server_does}}}
 
 -- a success has no cause
 pub no_error : (cause : End) → IsErrOf {T = Unit {0}} (Ok tt) cause → ⊥
@@ -79,6 +79,8 @@ ends_begun before after clock' words' end begun =
       };
       starve = begins.starve;
       is_turn = subst (λ (one : End). IsCut one (family_in before.work.server) turn) (sym begins.is.0) (record { none = begins.is.1; no_moment = begins.is.2; unheard = refl; no_lines = refl });
+      untried = record { same_tried = refl; same_faults = refl };
+      asked = sym (append-nil before.askers);
     }
 
 module _ (before : World) (began heard : AtWork) (clock' : Option (List ℕ)) (words' : WordsSeen) (room' : ℕ) (begun : BeginsBy before.work began before.clock clock' before.words words' (Ok tt)) where
@@ -103,19 +105,21 @@ module _ (before : World) (began heard : AtWork) (clock' : Option (List ℕ)) (w
         starve = begins.starve;
         is_turn = ⊎_elim (λ (closed : (end ≡ Closed) × IsClosed from_link hears.answers). subst (λ (one : End). IsCut one family turn) (sym closed.0) (of_link has_begun closed.1 refl))
             (λ (failed : (end ≡ LinkFault) × IsBegun from_link hears.answers). subst (λ (one : End). IsCut one family turn) (sym failed.0) (has_begun, failed.1, refl)) hears.ends;
+        untried = record { same_tried = refl; same_faults = refl };
+        asked = sym (append-nil before.askers);
       }
 
-  -- when the control feed was asked, or the turn is whole
+  -- when the control was asked, or the turn is whole
   turn_read : (turn : Turn) (result : Result (Unit {0}) End) → HasHeard turn → AreAsked (from_control family) FeedFault result turn.lines → IsTurnBy result family turn
   turn_read turn (Ok unit) has asked = record { heard = has; control = asked }
   turn_read turn (Err end) has asked =
       ⊎_elim (λ (closed : (end ≡ Closed) × IsClosed (from_control family) turn.lines). subst (λ (one : End). IsCut one family turn) (sym closed.0) (of_control has closed.1))
       (λ (failed : (end ≡ FeedFault) × IsBegun (from_control family) turn.lines). subst (λ (one : End). IsCut one family turn) (sym failed.0) (has, failed.1)) asked
 
-  pub ends_read : (after : AtWork) (control' : FeedSeen) (wait' last_room : ℕ) (result : Result (Unit {0}) End) → HearsSo AreAsked began heard before.room room' (Ok tt)
-      → ReadsSo AreAsked heard after before.control control' before.control_wait wait' room' last_room result
-      → TurnsSo before (world after clock' words' control' wait' last_room) result
-  ends_read after control' wait' last_room result hearing_so reading_so =
+  pub ends_read : (after : AtControl) (last_room : ℕ) (result : Result (Unit {0}) End) → HearsSo AreAsked began heard before.room room' (Ok tt)
+      → ReadsSo AreAsked (at_control heard before.control before.control_wait before.askers) after room' last_room result
+      → TurnsSo before (with_control (record before { clock = clock'; words = words'; room = last_room }) after) result
+  ends_read after last_room result hearing_so reading_so =
       let now : World = record before { clock = clock'; words = words' } in
       let begins = begun before in
       let hears = hearing_so now in
@@ -124,12 +128,14 @@ module _ (before : World) (began heard : AtWork) (clock' : Option (List ℕ)) (w
       let asked : AreAsked (from_control family) FeedFault result reads.answers =
       subst (λ (setup : Setup). AreAsked (from_control (family_of setup.settings)) FeedFault result reads.answers) (hears.goes.same ∙ begins.does.same) reads.ends in record {
         turn = turn;
-        does = goes_of (latest_in before.work.server) turn (few_asked from_link LinkFault (Ok tt) hears.answers hears.ends) (few_asked (from_control family) FeedFault result reads.answers asked) begins.does hears.goes reads.goes;
+        does = goes_of (latest_in before.work.server) turn (few_asked from_link LinkFault (Ok tt) hears.answers hears.ends) (few_asked (from_control family) FeedFault result reads.answers asked) begins.does hears.goes reads.goes.does;
         causes = record {
-          link = not_cause _ LinkFault _ _ (no_other (from_control family) FeedFault result reads.answers asked LinkFault (λ is. cc) (λ is. cc)) (reads.goes.calm refl ∙ hears.cause.calm (no_error LinkFault) ∙ begins.does.calm refl);
+          link = not_cause _ LinkFault _ _ (no_other (from_control family) FeedFault result reads.answers asked LinkFault (λ is. cc) (λ is. cc)) (reads.goes.does.calm refl ∙ hears.cause.calm (no_error LinkFault) ∙ begins.does.calm refl);
           control = reads.cause;
           words = not_cause _ WordsFault _ _ (no_other (from_control family) FeedFault result reads.answers asked WordsFault (λ is. cc) (λ is. cc)) (begins.cause.calm (no_error WordsFault));
         };
         starve = begins.starve;
         is_turn = turn_read turn result (record { begun = record { word = begins.is.0; moment = begins.is.1 }; link = hears.ends }) asked;
+        untried = reads.goes.untried;
+        asked = reads.goes.asked;
       }

@@ -1,7 +1,6 @@
 -- One event that a running gateway takes.
 use Rattle.std.{proofs.{Common.{◌≡◌, ◌≤◌, ℕ, List, [], ◌∷◌, ◌++◌, length, map, sym, ap, subst, ◌∙◌, append-nil, arith}, Math.Logic.{∥∥₁_elim, ∥∥₁_map}, Props.{props}, lemmas.List.{length-map}}, specs.Prelude.{Option}}
 use mathlib.Core.Sum.{⊎_set}
-use Rattle.amt_values.specs.declared.peer.Peer.{Peer}
 use Rattle.gateway_machine.specs.{Outcomes.{NeedsNoMemory}, Runs.{After, GatewayAt, answer_after, settings_of}, Sends.{datagram_of}, declared.{event.GatewayEvent.{GatewayEvent}, gateway.Gateway.{Gateway}, settings.GatewaySettings.{GatewaySettings}, step.PeerSend.{PeerSend}}}
 use Rattle.amt_ports.proofs.Told.{AppendsAll-none}
 use Rattle.gateway_serving.specs.{Courses.{events_so_far}, Sending.{delivered_to, delivery_to, to_peer}, Servers.{counts_in, events_in, latest_in, settings_in, setup_in, wanted_packets, wanted_sends}, Taking.{HasSent}, Traces.{AtWork, WorkDoes, taking}}
@@ -57,9 +56,8 @@ step_does {before} {after} event middle tried sends packet all sends_by packet_b
     let wanted : map to_peer tried ++ [] ≡ wanted_sends setup earlier (event ∷ []) = ap (λ (list : List PeerSend). map to_peer list ++ []) (all ∙ sends_are before.server event sends sends_by) in
     let packets : delivery_to setup.deliver packet ≡ wanted_packets setup earlier (event ∷ []) =
     ap (delivery_to setup.deliver) (packet_is before.server event packet packet_by) ∙ sym (append-nil (delivered_to setup.deliver setup.settings setup.first earlier event)) in
-    let Sent : List (Peer × List ℕ) → List (Peer × List ℕ) → Type 0 = HasSent before.link after.link before.out after.out (counts_in before.server) (counts_in after.server) in
     work_does {clock = around.clock} {clock' = around.clock} (event ∷ []) [] 0 0 0 0 1 same events latest
-    (subst (Sent (wanted_sends setup earlier (event ∷ []))) packets (subst (λ (list : List (Peer × List ℕ)). Sent list (delivery_to setup.deliver packet)) wanted (HasSent-then sent handed)))
+    (HasSent-then sent handed wanted packets)
     (record {
       datagrams_are = omega (arith, ap (λ (counts : Counts). counts.datagrams) one, ap (λ (counts : Counts). counts.datagrams) two);
       controls_are = omega (arith, ap (λ (counts : Counts). counts.controls) one, ap (λ (counts : Counts). counts.controls) two);

@@ -1,9 +1,9 @@
 -- What is tried for sends and packets, and then for more.
-use Rattle.std.{proofs.{Common.{◌≡◌, ℕ, ◌+◌, ◌<◌, ◌≤◌, not, Bool, true, false, List, [], ◌∷◌, ◌++◌, length, get_or, map, take, refl, sym, ap, subst, ◌∙◌, arith}, lemmas.List.{take_more, map-append}}, specs.Prelude.{IsSome, OnOk, Option, Some, Result, Ok, Err, is_ok}}
-use Rattle.amt_ports.{specs.{Causes.{HasCause}, Sends.{TriedSend, tried_send}, Told.{Appends}, declared.fault.Failed.{Failed}, Devices.{LinkSeen, OutSeen}, Tried.{HasTried}}, proofs.Trying.{HasTried-failed, HasTried-none, HasTried-sent, HasTried-then}}
+use Rattle.std.{proofs.{Common.{◌≡◌, ℕ, suc, ◌+◌, ◌<◌, ◌≤◌, cond, not, zero-add, length-append, Bool, true, false, List, [], ◌∷◌, ◌++◌, length, get_or, map, take, refl, sym, ap, subst, ◌∙◌, arith}, lemmas.List.{length-map, map-append, take_at, take_more, Sums.{sum_by-append, sum_by-cons}}}, specs.{Prelude.{IsSome, OnOk, Option, Some, Result, Ok, Err, is_ok}}}
+use Rattle.amt_ports.{specs.{Causes.{HasCause}, Sends.{TriedSend, datagram_of, sent_count, tried_send, unsent_count}, Told.{Appends}, declared.fault.Failed.{Failed}, Devices.{LinkSeen, OutSeen}, Tried.{HasTried}}, proofs.{Told.{AppendsAll-then}, Trying.{HasTried-failed, HasTried-none, HasTried-sent, HasTried-then}}}
 use Rattle.amt_values.specs.declared.peer.Peer.{Peer}
 use Rattle.gateway_machine.specs.declared.step.PeerSend.{PeerSend}
-use Rattle.gateway_serving.specs.{Counting.{one_if, with_send}, Sending.{delivery_to, to_peer}, Taking.{HasSent}, declared.counts.Counts.{Counts}}
+use Rattle.gateway_serving.specs.{Counting.{one_if, with_send}, Rounds.{unsent_of}, Sending.{delivery_to, to_peer}, Taking.{HasSent}, declared.counts.Counts.{Counts}}
 
 pub sends_more : (sends : List PeerSend) (place : ℕ) (send : PeerSend) (bytes : List ℕ) → place < length sends → send ≡ get_or sends place send → bytes ≡ send.bytes
     → map to_peer (take place sends) ++ (send.to, bytes) ∷ [] ≡ map to_peer (take (place + 1) sends)
@@ -73,19 +73,107 @@ HasSent-none {link} {link'} {out} same same_faults delivered unsent = record {
   unsent_are = omega (arith, unsent);
 }
 
+-- The same of what was wanted by other words. What was tried stays, so it is told by unfolding.
+unfoldable pub tried_at : {before after : Option (List TriedSend)} {faults faults' sent unsent : ℕ} {wanted all : List (Peer × List ℕ)} → HasTried before after faults faults' wanted sent unsent → wanted ≡ all
+    → HasTried before after faults faults' all sent unsent
+tried_at tried same = record {
+  sends = tried.sends;
+  exactly = tried.exactly ∙ same;
+  appended = tried.appended;
+  sent_is = tried.sent_is;
+  unsent_is = tried.unsent_is;
+  later = tried.later;
+  cause = tried.cause;
+  quiet = tried.quiet;
+  tells = tried.tells;
+}
+
+-- two lots in a row
+unfoldable pub tried_then : {before now after : Option (List TriedSend)} {faults middle faults' sent unsent sent_then unsent_then : ℕ} {wanted others all : List (Peer × List ℕ)}
+    → HasTried before now faults middle wanted sent unsent → HasTried now after middle faults' others sent_then unsent_then → wanted ++ others ≡ all
+    → HasTried before after faults faults' all (sent + sent_then) (unsent + unsent_then)
+tried_then {before} {now} {after} {faults} {middle} {faults'} {sent} {unsent} {sent_then} {unsent_then} {wanted} {others} first second same =
+    let both = HasTried-then before now after faults middle faults' wanted others sent unsent sent_then unsent_then first second in
+    let taken = sum_by-append (λ (one : TriedSend). cond one.sent 1 0) first.sends second.sends in
+    let missed = sum_by-append (λ (one : TriedSend). cond (not one.sent) 1 0) first.sends second.sends in record {
+      sends = first.sends ++ second.sends;
+      exactly = map-append datagram_of first.sends second.sends ∙ (λ i. first.exactly i ++ second.exactly i) ∙ same;
+      appended = AppendsAll-then before now after first.sends second.sends first.appended second.appended;
+      sent_is = omega (arith, taken, first.sent_is, second.sent_is);
+      unsent_is = omega (arith, missed, first.unsent_is, second.unsent_is);
+      later = both.later;
+      cause = both.cause;
+      quiet = both.quiet;
+      tells = both.tells;
+    }
+
 -- sends and packets, and then more
-pub HasSent-then : {link now link' : LinkSeen} {out middle out' : OutSeen} {counts known counts' : Counts} {sends packets more others : List (Peer × List ℕ)}
-    → HasSent link now out middle counts known sends packets → HasSent now link' middle out' known counts' more others → HasSent link link' out out' counts counts' (sends ++ more) (packets ++ others)
-HasSent-then first second = record {
+unfoldable pub HasSent-then : {link now link' : LinkSeen} {out middle out' : OutSeen} {counts known counts' : Counts} {sends packets more others all all' : List (Peer × List ℕ)}
+    → HasSent link now out middle counts known sends packets → HasSent now link' middle out' known counts' more others → sends ++ more ≡ all → packets ++ others ≡ all' → HasSent link link' out out' counts counts' all all'
+HasSent-then first second same same' = record {
   link_sent = first.link_sent + second.link_sent;
   link_unsent = first.link_unsent + second.link_unsent;
-  sent = HasTried-then _ _ _ _ _ _ _ _ _ _ _ _ first.sent second.sent;
+  sent = tried_then first.sent second.sent same;
   out_sent = first.out_sent + second.out_sent;
   out_unsent = first.out_unsent + second.out_unsent;
-  handed = HasTried-then _ _ _ _ _ _ _ _ _ _ _ _ first.handed second.handed;
+  handed = tried_then first.handed second.handed same';
   delivered_are = omega (arith, first.delivered_are, second.delivered_are);
   unsent_are = omega (arith, first.unsent_are, second.unsent_are);
 }
+
+unfoldable pub HasSent-at : {link link' : LinkSeen} {out out' : OutSeen} {counts counts' : Counts} {sends packets all all' : List (Peer × List ℕ)}
+    → HasSent link link' out out' counts counts' sends packets → sends ≡ all → packets ≡ all' → HasSent link link' out out' counts counts' all all'
+HasSent-at sent same same' = record {
+  link_sent = sent.link_sent;
+  link_unsent = sent.link_unsent;
+  sent = tried_at sent.sent same;
+  out_sent = sent.out_sent;
+  out_unsent = sent.out_unsent;
+  handed = tried_at sent.handed same';
+  delivered_are = sent.delivered_are;
+  unsent_are = sent.unsent_are;
+}
+
+no_more : {X : Type 0} (list : List X) → 0 ≡ length list → list ≡ []
+no_more [] none = refl
+no_more (one ∷ list) none = absurd (omega (arith, none))
+
+-- as many were tried as were wanted
+pub as_many : {before after : Option (List TriedSend)} {faults faults' sent unsent : ℕ} {wanted : List (Peer × List ℕ)} (tried : HasTried before after faults faults' wanted sent unsent) → length wanted ≡ length tried.sends
+as_many tried = sym (ap length tried.exactly) ∙ length-map tried.sends datagram_of
+
+-- none where none was wanted
+pub none_tried : {before after : Option (List TriedSend)} {faults faults' sent unsent : ℕ} (tried : HasTried before after faults faults' [] sent unsent) → tried.sends ≡ []
+none_tried tried = no_more tried.sends (as_many tried)
+
+each_counted : (sends : List TriedSend) → sent_count sends + unsent_count sends ≡ length sends
+each_counted [] = refl
+each_counted (one ∷ sends) =
+    let sent = sum_by-cons (λ (send : TriedSend). cond send.sent 1 0) one sends in
+    let unsent = sum_by-cons (λ (send : TriedSend). cond (not send.sent) 1 0) one sends in
+    omega (arith, each_counted sends, one_of one.sent, sent, unsent)
+
+-- all that was wanted was sent or not
+pub all_tried : {before after : Option (List TriedSend)} {faults faults' sent unsent : ℕ} {wanted : List (Peer × List ℕ)} → HasTried before after faults faults' wanted sent unsent → sent + unsent ≡ length wanted
+all_tried tried = let all = as_many tried in omega (arith, all, each_counted tried.sends, tried.sent_is, tried.unsent_is)
+
+-- what wasn't taken, whatever was tried later
+pub unsent_first : {before after : Option (List TriedSend)} {faults faults' sent unsent : ℕ} {wanted : List (Peer × List ℕ)} (tried : HasTried before after faults faults' wanted sent unsent) (more : List TriedSend)
+    → unsent ≡ unsent_of wanted (tried.sends ++ more)
+unsent_first {wanted = wanted} tried more = tried.unsent_is ∙ ap unsent_count (sym (take_at tried.sends more (length wanted) (sym (as_many tried))))
+
+-- what wasn't taken of two lots in a row
+take_past : {X : Type 0} (first second : List X) (more : ℕ) → take (length first + more) (first ++ second) ≡ first ++ take more second
+take_past [] second more = ap (λ (n : ℕ). take n second) (zero-add more)
+take_past {X} (one ∷ first) second more =
+    let next : length (one ∷ first) + more ≡ suc (length first + more) = omega arith in
+    ap (λ (n : ℕ). take n (one ∷ (first ++ second))) next ∙ ap (λ (list : List X). one ∷ list) (take_past first second more)
+
+pub unsent_then : (wanted others : List (Peer × List ℕ)) (first second : List TriedSend) → length wanted ≡ length first → unsent_of (wanted ++ others) (first ++ second) ≡ unsent_count first + unsent_of others second
+unsent_then wanted others first second many =
+    ap (λ (n : ℕ). unsent_count (take n (first ++ second))) (length-append wanted others ∙ ap (λ (n : ℕ). n + length others) many)
+    ∙ ap unsent_count (take_past first second (length others))
+    ∙ sum_by-append (λ (one : TriedSend). cond (not one.sent) 1 0) first (take (length others) second)
 
 pub few_more : (before after : Counts) (taken : Bool) → after ≡ with_send taken before → after.unsent ≤ before.unsent + 1
 few_more before after taken is = omega (arith, ap (λ (one : Counts). one.unsent) is, one_of taken)

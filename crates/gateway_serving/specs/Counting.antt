@@ -1,28 +1,25 @@
 -- What is counted of a run.
 use Rattle.std.specs.Prelude.{◌≡◌, ℕ, ◌+◌, Bool, true, false, not, if◌then◌else◌, List, count_by, sum_by, Option, None, Some}
-use Rattle.amt_ports.specs.declared.{feed.FeedAnswer.{FeedAnswer, TheVariants.{Packet, Nothing as NothingFed, Closed as FeedClosed}}, link.LinkAnswer.{LinkAnswer, TheVariants.{Datagram, Nothing as NothingCame, Closed as LinkClosed}}}
-use Rattle.gateway_serving.specs.{Turns.{Bad, Called, Line, Starved, Turn}, declared.counts.Counts.{Counts}}
+use Rattle.amt_ports.specs.declared.link.LinkAnswer.{LinkAnswer, TheVariants.{Datagram, Nothing as NothingCame, Closed as LinkClosed}}
+use Rattle.gateway_serving.specs.{Turns.{Asks, Bad, Called, Line, Starved, Turn}, declared.counts.Counts.{Counts}}
 
 abbrev pub is_datagram : LinkAnswer → Bool
 is_datagram (Datagram from bytes) = true
 is_datagram NothingCame = false
 is_datagram LinkClosed = false
 
-abbrev pub is_line : FeedAnswer → Bool
-is_line (Packet bytes) = true
-is_line NothingFed = false
-is_line FeedClosed = false
-
 abbrev pub is_bad : Option Line → Bool
 is_bad None = false
 is_bad (Some (Called event)) = false
-is_bad (Some Bad) = true
+is_bad (Some (Asks asking)) = false
+is_bad (Some (Bad reason)) = true
 is_bad (Some Starved) = false
 
 abbrev pub is_starved_line : Option Line → Bool
 is_starved_line None = false
 is_starved_line (Some (Called event)) = false
-is_starved_line (Some Bad) = false
+is_starved_line (Some (Asks asking)) = false
+is_starved_line (Some (Bad reason)) = false
 is_starved_line (Some Starved) = true
 
 -- the events and the lines of a turn that memory refused
@@ -35,17 +32,18 @@ abbrev pub datagrams_heard : Turn → ℕ
 datagrams_heard turn = count_by (λ one. is_datagram one.answer) turn.heard
 
 abbrev pub lines_taken : Turn → ℕ
-lines_taken turn = count_by (λ one. is_line one.answer) turn.lines
+lines_taken turn = count_by (λ one. is_datagram one.answer) turn.lines
 
 abbrev pub bad_lines_taken : Turn → ℕ
 bad_lines_taken turn = count_by (λ one. is_bad one.line) turn.lines
 
--- each datagram and each line that was taken counts, those that memory refused among them
-pub record AreCounted (turns : List Turn) (datagrams controls bad_controls starved : ℕ) : Type 0 where
+-- each datagram and each line that was taken counts, those that memory refused among them; and that is counted with what
+-- memory refused besides, as answers to lines
+pub record AreCounted (turns : List Turn) (refused : ℕ) (datagrams controls bad_controls starved : ℕ) : Type 0 where
   pub datagrams_are : datagrams ≡ sum_by datagrams_heard turns
   pub controls_are : controls ≡ sum_by lines_taken turns
   pub bad_are : bad_controls ≡ sum_by bad_lines_taken turns
-  pub starved_are : starved ≡ sum_by starved_in turns
+  pub starved_are : starved ≡ sum_by starved_in turns + refused
 
 abbrev pub no_counts : Counts
 no_counts = record { datagrams = 0; controls = 0; bad_controls = 0; delivered = 0; unsent = 0; starved = 0 }

@@ -1,9 +1,9 @@
 -- The events that the answers of devices make, in the order of a turn: a nonce, its moment, each datagram, each
--- socket call.
+-- socket call; and at the end of a run that all sockets leave their groups.
 use Rattle.std.specs.{Prelude.{ℕ, ◌%◌, ◌^◌, max, List, [], ◌∷◌, ◌++◌, map, Option, None, Some}, List.{filter_map}}
 use Rattle.amt_ports.specs.{declared.link.LinkAnswer.{LinkAnswer, TheVariants.{Datagram as DatagramCame, Nothing as NothingCame, Closed as LinkClosed}}, Answers.{Taken, unless_starved}}
-use Rattle.gateway_machine.specs.declared.event.GatewayEvent.{GatewayEvent, TheVariants.{Datagram, Moment, Nonce}}
-use Rattle.gateway_serving.specs.{Runs.{Run, turns_of}, Turns.{Bad, Called, Line, Starved, ControlAnswer, Turn, moment_of_turn}}
+use Rattle.gateway_machine.specs.declared.event.GatewayEvent.{GatewayEvent, TheVariants.{Datagram, LeaveAll, Moment, Nonce}}
+use Rattle.gateway_serving.specs.{Leaving.{Leaving, Stayed, AllLeft, LeaveRefused}, Runs.{Run, turns_of}, Turns.{Asks, Bad, Called, Line, Starved, ControlAnswer, Turn, moment_of_turn}}
 
 -- a nonce is the low 32 bits of a word
 abbrev pub nonce_of : ℕ → ℕ
@@ -24,7 +24,8 @@ datagrams_in heard = filter_map (λ one. unless_starved one.starved (datagram_of
 abbrev pub call_of : Option Line → Option GatewayEvent
 call_of None = None
 call_of (Some (Called event)) = Some event
-call_of (Some Bad) = None
+call_of (Some (Asks asking)) = None
+call_of (Some (Bad reason)) = None
 call_of (Some Starved) = None
 
 abbrev pub calls_in : List ControlAnswer → List GatewayEvent
@@ -47,8 +48,14 @@ abbrev pub first_moment : List ℕ → ℕ
 first_moment [] = 0
 first_moment (moment ∷ later) = moment
 
+-- the last event of a run, where all sockets left their groups
+abbrev pub leave_events : Leaving → List GatewayEvent
+leave_events Stayed = []
+leave_events AllLeft = LeaveAll ∷ []
+leave_events LeaveRefused = []
+
 abbrev pub events_of : Run → List GatewayEvent
-events_of run = run.begun ++ events_from (first_moment run.moments) (turns_of run)
+events_of run = run.begun ++ (events_from (first_moment run.moments) (turns_of run) ++ leave_events run.left)
 
 -- the first nonce of a run, and 0 where there is none
 abbrev pub nonce_by : List ℕ → ℕ

@@ -1,8 +1,14 @@
+pub mod Answering
+pub mod Askers
 pub mod Counting
 pub mod Courses
 pub mod Devices
 pub mod Events
+pub mod Leaving
+pub mod OutcomeWords
+pub mod Replies
 pub mod Reports
+pub mod Rounds
 pub mod Runs
 pub mod Sending
 pub mod Servers

@@ -4,7 +4,7 @@ use Rattle.amt_config.specs.declared.config.GatewayConfig.{GatewayConfig}
 use Rattle.amt_values.specs.declared.peer.Peer.{Peer}
 use Rattle.gateway_machine.specs.{Runs.{settings_of}, Settings.{family_of}, declared.{event.GatewayEvent.{GatewayEvent}, settings.GatewaySettings.{GatewaySettings}}}
 use Rattle.group_records.specs.declared.family.Family.{Family}
-use Rattle.gateway_serving.specs.{Counting.{no_counts}, Courses.{events_so_far}, Events.{nonce_of}, Sending.{delivered_after, sends_after}, Settings.{settings_of as settings_by}, declared.{counts.Counts.{Counts}, server.Server.{Server}}}
+use Rattle.gateway_serving.specs.{Counting.{no_counts}, Courses.{events_so_far}, Events.{nonce_of}, Replies.{Standing}, Sending.{delivered_after, sends_after}, Settings.{settings_of as settings_by}, declared.{counts.Counts.{Counts}, server.Server.{Server}}}
 
 -- what a gateway was set up with, its first nonce, and where packets go that are handed on
 pub record Setup : Type 0 where
@@ -36,6 +36,19 @@ counts_in server = server.counts
 abbrev pub tally_in : Server → ℕ
 tally_in server =
     length (events_in server) + ((counts_in server).datagrams + ((counts_in server).controls + ((counts_in server).bad_controls + (counts_in server).starved)))
+
+-- where it stands after this number of turns
+abbrev pub standing_in : ℕ → Server → Standing
+standing_in turns server = record {
+  events = events_in server;
+  turns = turns;
+  datagrams = (counts_in server).datagrams;
+  controls = (counts_in server).controls;
+  bad_controls = (counts_in server).bad_controls;
+  delivered = (counts_in server).delivered;
+  unsent = (counts_in server).unsent;
+  starved = (counts_in server).starved;
+}
 
 -- what a link tries after these events for later ones, and what an out tries
 abbrev pub wanted_sends : Setup → List GatewayEvent → List GatewayEvent → List (Peer × List ℕ)

@@ -1,10 +1,10 @@
 -- What devices answer in a stage of a turn and what happens by that, and what it does to all that turns change.
 use Rattle.std.specs.Prelude.{◌≡◌, ℕ, ◌+◌, ◌*◌, ◌≤◌, ◌||◌, Bool, true, false, List, [], ◌∷◌, ◌++◌, count_by, length, map, sum_by, filter_map, Some, Option, Result}
-use Rattle.amt_ports.specs.{declared.{feed.FeedAnswer.{FeedAnswer, TheVariants.{Closed as FeedClosed}}, link.LinkAnswer.{LinkAnswer, TheVariants.{Closed as LinkClosed}}, end.End.{End, TheVariants.{LinkFault, FeedFault}}}, Answers.{Taken, unless_starved}, Bursts.{AnswerKinds, AskedSo, Asking}, Devices.{AnswersAll, FeedSeen, LinkSeen, OutSeen, WaitsBriefly, WordsSeen}, Told.{AppendsAll}}
+use Rattle.amt_ports.specs.{declared.{link.LinkAnswer.{LinkAnswer, TheVariants.{Closed as LinkClosed}}, end.End.{End, TheVariants.{LinkFault, FeedFault}}}, Answers.{Taken, unless_starved}, Bursts.{AnswerKinds, AskedSo, Asking}, Devices.{AnswersAll, LinkSeen, OutSeen, WaitsBriefly, WordsSeen}, Told.{AppendsAll}}
 use Rattle.gateway_machine.specs.declared.event.GatewayEvent.{GatewayEvent}
 use Rattle.group_records.specs.declared.family.Family.{Family}
-use Rattle.gateway_serving.specs.{Counting.{Tallies, bad_lines_taken, datagrams_heard, is_bad, is_datagram, is_line, is_starved_line, lines_taken, one_if, starved_in}, Events.{calls_in, datagrams_in, events_from, moments_in, nonces_in}, Runs.{control_answers, link_answers, moments_given, words_drawn}}
-use Rattle.gateway_serving.specs.{Servers.{counts_in, events_in, family_in, latest_in, setup_in, tally_in, wanted_packets, wanted_sends}, Taking.{HasSent}, Turns.{ControlAnswer, Turn, from_control, from_link, latest_of}, declared.server.Server.{Server}}
+use Rattle.gateway_serving.specs.{Askers.{IsUntried, askers_among}, Counting.{Tallies, bad_lines_taken, datagrams_heard, is_bad, is_datagram, is_starved_line, lines_taken, one_if, starved_in}, Events.{calls_in, datagrams_in, events_from, leave_events, moments_in, nonces_in}, Leaving.{Leaving, refused_leave}, Runs.{control_answers, link_answers, moments_given, words_drawn}}
+use Rattle.gateway_serving.specs.{Servers.{counts_in, events_in, family_in, latest_in, setup_in, tally_in, wanted_packets, wanted_sends}, Taking.{HasSent}, Turns.{ControlAnswer, Turn, from_control, from_link, latest_of}, declared.{askers.Asker.{Asker}, server.Server.{Server}}}
 
 -- What was taken and heard: the events, the answers of each device, whether the link was asked, and what is counted
 -- of the answers. The events and what is counted are at most the tally.
@@ -13,7 +13,7 @@ pub record Trace : Type 0 where
   pub drawn : List ℕ
   pub moments : List ℕ
   pub heard : List LinkAnswer
-  pub lines : List FeedAnswer
+  pub lines : List LinkAnswer
   pub asks_link : Bool
   pub datagrams : ℕ
   pub controls : ℕ
@@ -61,7 +61,7 @@ beginning latest drawn clock = record nothing {
   tally = 2;
 }
 
--- the link's answers, and those of the control feed
+-- the link's answers, and those of the control
 abbrev pub hearing : List (Taken LinkAnswer) → Trace
 hearing heard = record nothing {
   events = datagrams_in heard;
@@ -76,7 +76,7 @@ abbrev pub reading : List ControlAnswer → Trace
 reading lines = record nothing {
   events = calls_in lines;
   lines = map (λ one. one.answer) lines;
-  controls = count_by (λ one. is_line one.answer) lines;
+  controls = count_by (λ one. is_datagram one.answer) lines;
   bad_controls = count_by (λ one. is_bad one.line) lines;
   starved = count_by (λ one. is_starved_line one.line) lines;
   tally = 2 * length lines;
@@ -98,6 +98,26 @@ in_turns latest turns = record {
   tally = 258 * length turns;
 }
 
+-- memory refused this number of answers to lines
+abbrev pub refusing : ℕ → Trace
+refusing number = record nothing { starved = number; tally = number }
+
+-- the end of a run
+abbrev pub leaving : Leaving → Trace
+leaving left = record nothing { events = leave_events left; starved = refused_leave left; tally = length (leave_events left) + refused_leave left }
+
+-- what follows a whole turn
+abbrev pub ending : ℕ → Leaving → Trace
+ending refused left = and_then (refusing refused) (leaving left)
+
+-- turns, with all that follows them
+abbrev pub in_run : ℕ → List Turn → ℕ → Leaving → Trace
+in_run latest turns refused left = record (in_turns latest turns) {
+  events = events_from latest turns ++ leave_events left;
+  starved = sum_by starved_in turns + (refused + refused_leave left);
+  tally = 258 * length turns + (refused + (length (leave_events left) + refused_leave left));
+}
+
 -- a gateway at work: itself, what is seen of its link, the longest wait of that, and what is seen of its out
 pub record AtWork : Type 0 where
   pub server : Server
@@ -108,17 +128,20 @@ pub record AtWork : Type 0 where
 abbrev pub at_work : Server → LinkSeen → ℕ → OutSeen → AtWork
 at_work server link wait out = record { server = server; link = link; wait = wait; out = out }
 
--- all that turns change: the gateway at work, what is seen of the other devices, and the room of the buffer
+-- all that turns change: the gateway at work, what is seen of the other devices, the room of the buffer, and those who
+-- are to be answered
 pub record World : Type 0 where
   pub work : AtWork
   pub clock : Option (List ℕ)
   pub words : WordsSeen
-  pub control : FeedSeen
+  pub control : LinkSeen
   pub control_wait : ℕ
   pub room : ℕ
+  pub askers : List Asker
 
-abbrev pub world : AtWork → Option (List ℕ) → WordsSeen → FeedSeen → ℕ → ℕ → World
-world work clock words control control_wait room = record { work = work; clock = clock; words = words; control = control; control_wait = control_wait; room = room }
+abbrev pub world : AtWork → Option (List ℕ) → WordsSeen → LinkSeen → ℕ → ℕ → List Asker → World
+world work clock words control control_wait room askers =
+    record { work = work; clock = clock; words = words; control = control; control_wait = control_wait; room = room; askers = askers }
 
 -- the devices gave exactly its answers, its events were taken, and the link tried exactly what the machine sends for
 -- them, and the out exactly the packets that it hands on
@@ -132,7 +155,7 @@ pub record Does (trace : Trace) (before after : World) : Type 0 where
   pub words : AppendsAll before.words.given after.words.given trace.drawn
   pub clock : AppendsAll before.clock after.clock trace.moments
   pub link : AnswersAll LinkClosed before.work.link.coming after.work.link.coming trace.heard
-  pub control : AnswersAll FeedClosed before.control.coming after.control.coming trace.lines
+  pub control : AnswersAll LinkClosed before.control.coming after.control.coming trace.lines
   pub calm : trace.asks_link ≡ false → after.work.link.receive_faults ≡ before.work.link.receive_faults
   pub few : tally_in after.work.server ≤ tally_in before.work.server + trace.tally
   pub link_waits : WaitsBriefly before.work.wait after.work.wait
@@ -154,13 +177,29 @@ by_link = record { Goes = λ before after heard. Does (hearing heard) before aft
 abbrev pub HearsSo : {R : Type 0} → (AnswerKinds (Taken LinkAnswer) → End → Result R End → List (Taken LinkAnswer) → Type 0) → AtWork → AtWork → ℕ → ℕ → Result R End → Type 0
 HearsSo Ends before after room room' result = (around : World) → AskedSo by_link Ends (record around { work = before; room = room }) (record around { work = after; room = room' }) result
 
--- the same of the control feed, whose lines are of the gateway's family
+-- lines of the control: by it nothing was tried, and those who asked are to be answered
+pub record Reads (before after : World) (lines : List ControlAnswer) : Type 0 where
+  pub does : Does (reading lines) before after
+  pub untried : IsUntried before.control after.control
+  pub asked : after.askers ≡ before.askers ++ askers_among lines
+
+-- the same of the control, whose lines are of the gateway's family
 abbrev pub by_control : Family → Asking World ControlAnswer
-by_control family = record { Goes = λ before after lines. Does (reading lines) before after; kinds = from_control family; fault = FeedFault; faults = λ seen. seen.control.faults }
+by_control family = record { Goes = Reads; kinds = from_control family; fault = FeedFault; faults = λ seen. seen.control.receive_faults }
 
-abbrev pub at_control : World → AtWork → FeedSeen → ℕ → ℕ → World
-at_control around work control wait room = record around { work = work; control = control; control_wait = wait; room = room }
+-- what lines change, of all that turns change
+pub record AtControl : Type 0 where
+  pub work : AtWork
+  pub control : LinkSeen
+  pub wait : ℕ
+  pub askers : List Asker
 
-abbrev pub ReadsSo : {R : Type 0} → (AnswerKinds ControlAnswer → End → Result R End → List ControlAnswer → Type 0) → AtWork → AtWork → FeedSeen → FeedSeen → ℕ → ℕ → ℕ → ℕ → Result R End → Type 0
-ReadsSo Ends before after control control' wait wait' room room' result =
-    (around : World) → AskedSo (by_control (family_in before.server)) Ends (at_control around before control wait room) (at_control around after control' wait' room') result
+abbrev pub at_control : AtWork → LinkSeen → ℕ → List Asker → AtControl
+at_control work control wait askers = record { work = work; control = control; wait = wait; askers = askers }
+
+abbrev pub with_control : World → AtControl → World
+with_control around seen = record around { work = seen.work; control = seen.control; control_wait = seen.wait; askers = seen.askers }
+
+abbrev pub ReadsSo : {R : Type 0} → (AnswerKinds ControlAnswer → End → Result R End → List ControlAnswer → Type 0) → AtControl → AtControl → ℕ → ℕ → Result R End → Type 0
+ReadsSo Ends before after room room' result =
+    (around : World) → AskedSo (by_control (family_in before.work.server)) Ends (with_control (record around { room = room }) before) (with_control (record around { room = room' }) after) result

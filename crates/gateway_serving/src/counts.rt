@@ -5,16 +5,16 @@ ghost use Rattle.gateway_serving.specs.Counting.{no_counts, with_send, with_star
 /// Counts since the run began.
 #[derive(Clone, Copy, Debug, PartialEq, Eq)]
 pub struct Counts {
-    /// Datagrams from the link, and lines from the control feed.
+    /// Datagrams from the link, and lines from the control.
     pub datagrams: u64,
     pub controls: u64,
-    /// Lines that make no socket call.
+    /// Lines that make no socket call and ask for nothing.
     pub bad_controls: u64,
     /// Packets that were handed on.
     pub delivered: u64,
     /// What the link or the out didn't take.
     pub unsent: u64,
-    /// Events and lines that memory refused.
+    /// Events, lines and answers to lines that memory refused.
     pub starved: u64,
 }
 
@@ -43,7 +43,7 @@ impl Counts {
         }
     }
 
-    /// Counts an event or a line that memory refused.
+    /// Counts an event, a line or an answer that memory refused.
     pub(crate) fn count_starved(&mut self)
         requires { self.old.starved < 2 ^ 62 }
         ensures { self.new ≡ with_starved self.old }

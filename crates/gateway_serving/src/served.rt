@@ -13,15 +13,15 @@ pub struct GatewayServed {
     pub turns: u64,
     /// The datagrams that were taken from the link.
     pub datagrams: u64,
-    /// The lines that were taken from the control feed.
+    /// The lines that were taken from the control.
     pub controls: u64,
-    /// Those of them that make no socket call.
+    /// Those of them that make no socket call and ask for nothing.
     pub bad_controls: u64,
     /// The packets that were handed on.
     pub delivered: u64,
     /// The datagrams that the link didn't take, and the packets that the out didn't take.
     pub unsent: u64,
-    /// The events and the lines of turns that memory refused.
+    /// The events and the lines of turns that memory refused, and the answers to lines.
     pub starved: u64,
 }
 

@@ -1,12 +1,12 @@
 //! Runs of a gateway over devices in memory.
 ghost use Rattle.gateway_serving.specs.Settings.{AreTurns, IsLawfulConfig};
 
-use crate::devices::{Answer, Devices, Script};
+use crate::devices::{self, Answer, Devices, Script, link_answers};
 use amt_config::{GatewayConfig, gateway_settings};
-use amt_ports::{Feed, Link, MemOut};
+use amt_ports::{Link, MemLink, MemOut};
 use amt_values::{Ip, Peer};
 use gateway_serving::{GatewayServed, serve_gateway};
-use std::alloc::Global;
+use std::alloc::{AllocError, Global};
 use std::process::Abort;
 
 /// The settings file of a gateway that knows its relay, 192.0.2.77:2268, and joins 239.1.1.2 from every source.
@@ -30,7 +30,13 @@ pub const MESSAGE: Answer<'static> = Answer::Octets(
     "06004500001c0000000004119c92c6336409ef0101010400040000080000",
 );
 
-/// In the first turn the Query comes, and the line. Then link and control feed are closed.
+/// Whoever sends the lines.
+pub const ASKER: Peer = Peer {
+    ip: Ip::V4(0x7f00_0001),
+    port: 4000,
+};
+
+/// In the first turn the Query comes, and the line. Then link and control are closed.
 pub const SCRIPT: Script<'static> = Script {
     from: Peer {
         ip: Ip::V4(0xc000_024d),
@@ -60,13 +66,31 @@ fn assert_turns(rt: &impl Abort, turns: u64)
     assert!(rt; 1 <= turns && turns <= 1_099_511_627_776);
 }
 
+/// The devices of a gateway. What the script feeds is what comes to the control.
+pub fn devices_of(alloc: Global, script: &Script) -> Result<Devices<MemLink, MemLink>, AllocError> {
+    let Devices {
+        link,
+        feed: _,
+        clock,
+        words,
+    } = devices::devices_of(alloc, script)?;
+    let lines = link_answers(alloc, ASKER, script.fed)?;
+    let receivings = vec![in alloc; script.feeding]?;
+    Ok(Devices {
+        link,
+        feed: MemLink::failing(alloc, lines, receivings, Vec::new(alloc)),
+        clock,
+        words,
+    })
+}
+
 /// Runs a gateway by this settings file over these devices.
-pub fn serve<L: Link, F: Feed>(
+pub fn serve<L: Link, K: Link>(
     rt: &impl Abort,
     alloc: Global,
     file: &str,
     turns: u64,
-    devices: &mut Devices<L, F>,
+    devices: &mut Devices<L, K>,
     out: &mut MemOut,
 ) -> GatewayServed {
     let config = config_of(rt, alloc, file);

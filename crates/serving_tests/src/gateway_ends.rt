@@ -1,13 +1,13 @@
 //! What a gateway has counted by the end of a run that a device ends, which the command doesn't print.
 
-use crate::devices::{Answer, Script, devices_of};
-use crate::gateway::{KNOWING, MESSAGE, OPENING, QUERY, SCRIPT, serve};
+use crate::devices::{Answer, Script};
+use crate::gateway::{KNOWING, MESSAGE, OPENING, QUERY, SCRIPT, devices_of, serve};
 use amt_ports::{End, MemOut};
 use gateway_serving::GatewayServed;
 use std::alloc::{AllocError, Global};
 use std::process::Abort;
 
-// The call that fails, counted from 1: a word, or a receiving of the link or of the control feed.
+// The call that fails, counted from 1: a word, or a receiving of the link or of the control.
 #[derive(Clone, Copy)]
 enum Call {
     Word(u64),
@@ -66,14 +66,14 @@ const ROWS: [(&str, Script<'static>, Call, End, Counts); 7] = [
         [1, 2, 1, 0, 1],
     ),
     (
-        "the control feed after a packet",
+        "the control after a packet",
         PACKET,
         Call::Control(3),
         End::FeedFault,
         [1, 2, 1, 0, 1],
     ),
     (
-        "the control feed after lines",
+        "the control after lines",
         LINES,
         Call::Control(5),
         End::FeedFault,

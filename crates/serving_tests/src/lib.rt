@@ -13,6 +13,8 @@ mod devices;
 #[cfg(test)]
 mod gateway;
 #[cfg(test)]
+mod gateway_asked;
+#[cfg(test)]
 mod gateway_ends;
 #[cfg(test)]
 mod relay;

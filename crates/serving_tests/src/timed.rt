@@ -79,7 +79,7 @@ impl<F: Feed> Feed for Timed<F> {
     }
 }
 
-fn with_timing(devices: Devices<MemLink, MemFeed>) -> Devices<Timed<MemLink>, Timed<MemFeed>> {
+fn with_timing<F>(devices: Devices<MemLink, F>) -> Devices<Timed<MemLink>, Timed<F>> {
     Devices {
         link: Timed::new(devices.link),
         feed: Timed::new(devices.feed),
@@ -89,9 +89,9 @@ fn with_timing(devices: Devices<MemLink, MemFeed>) -> Devices<Timed<MemLink>, Ti
 }
 
 // Each was asked so often.
-fn assert_timed(
+fn assert_timed<F>(
     rt: &impl Abort,
-    devices: &Devices<Timed<MemLink>, Timed<MemFeed>>,
+    devices: &Devices<Timed<MemLink>, Timed<F>>,
     link: u64,
     feed: u64,
 ) {
@@ -166,8 +166,8 @@ fn gateway_devices(
     alloc: Global,
     script: &Script,
     turns: u64,
-) -> Result<Devices<Timed<MemLink>, Timed<MemFeed>>, AllocError> {
-    let mut devices = with_timing(devices_of(alloc, script)?);
+) -> Result<Devices<Timed<MemLink>, Timed<MemLink>>, AllocError> {
+    let mut devices = with_timing(gateway::devices_of(alloc, script)?);
     let mut out = MemOut::new(alloc);
     let _ = gateway::serve(rt, alloc, KNOWING, turns, &mut devices, &mut out);
     Ok(devices)
@@ -189,7 +189,7 @@ const CALLED: Script<'static> = Script {
     ..gateway::SCRIPT
 };
 
-// A Request, an Update, and two for the line: link and control feed are asked twice in the first turn.
+// A Request, an Update, and two for the line: link and control are asked twice in the first turn.
 #[test]
 fn a_gateway_sends_what_a_line_asks_for_before_its_next_turn(rt: HostRuntime) {
     let Ok(devices) = gateway_devices(&rt, rt.alloc(), &CALLED, 2) else {
@@ -198,4 +198,27 @@ fn a_gateway_sends_what_a_line_asks_for_before_its_next_turn(rt: HostRuntime) {
     assert_timed(&rt, &devices, 3, 3);
     assert_eq!(rt; devices.link.device.tried().len(), 4);
     assert_eq!(rt; devices.link.before_last, 2);
+}
+
+// Two lines that ask come in the first of two turns.
+const QUESTIONS: Script<'static> = Script {
+    heard: &[gateway::QUERY, Answer::Nothing, Answer::Nothing],
+    fed: &[
+        Answer::Line("show\n"),
+        Answer::Line("counts\n"),
+        Answer::Nothing,
+        Answer::Nothing,
+    ],
+    ..gateway::SCRIPT
+};
+
+// The control is asked three times in the first turn, and is silent then.
+#[test]
+fn a_gateway_takes_all_lines_of_a_turn_before_it_answers(rt: HostRuntime) {
+    let Ok(devices) = gateway_devices(&rt, rt.alloc(), &QUESTIONS, 2) else {
+        panic!(rt; "out of memory");
+    };
+    assert_timed(&rt, &devices, 3, 4);
+    assert_eq!(rt; devices.feed.device.tried().len(), 2);
+    assert_eq!(rt; devices.feed.before_last, 3);
 }

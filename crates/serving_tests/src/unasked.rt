@@ -1,8 +1,8 @@
 //! A gateway that can't draw its first word asks no device.
 
-use crate::devices::{Devices, Script, devices_of};
-use crate::gateway::{KNOWING, SCRIPT, serve};
-use amt_ports::{BUFFER, Clock, Feed, FeedGot, Got, Link, MemFeed, MemLink, MemOut, WAIT_MS};
+use crate::devices::{Devices, Script};
+use crate::gateway::{KNOWING, SCRIPT, devices_of, serve};
+use amt_ports::{BUFFER, Clock, Got, Link, MemLink, MemOut, WAIT_MS};
 use std::process::Abort;
 
 const WORDLESS: Script<'static> = Script {
@@ -12,11 +12,11 @@ const WORDLESS: Script<'static> = Script {
 };
 
 // The devices still have all that they had.
-fn assert_unasked(rt: &impl Abort, devices: &mut Devices<MemLink, MemFeed>, buf: &mut [u8]) {
+fn assert_unasked(rt: &impl Abort, devices: &mut Devices<MemLink, MemLink>, buf: &mut [u8]) {
     assert!(rt; buf.len() >= BUFFER);
     assert!(rt; devices.link.tried().is_empty());
     assert!(rt; matches!(devices.link.recv(buf, WAIT_MS), Ok(Got::Datagram(_, 48))));
-    assert!(rt; matches!(devices.feed.recv(buf, WAIT_MS), Ok(FeedGot::Packet(24))));
+    assert!(rt; matches!(devices.feed.recv(buf, WAIT_MS), Ok(Got::Datagram(_, 24))));
     assert_eq!(rt; devices.clock.now().ms(), 500);
 }
 

@@ -7,6 +7,7 @@ ghost use Rattle.gateway_serving.specs.{Counting.{no_counts}, Servers.{IsFresh, 
 use super::Server;
 use crate::counts::Counts;
 use crate::course::Course;
+use crate::outcomes::Outcomes;
 use crate::settings::settings_of;
 use amt_config::{GatewayConfig, Join};
 use amt_ports::{Clock, Link, OutLink};
@@ -38,12 +39,14 @@ impl Server {
     {
         let first = (word & 0xffff_ffff) as u32;
         let gateway = Gateway::new(alloc, settings_of(config), first)?;
+        let outcomes = Outcomes::new(alloc)?;
         Ok(Server {
             gateway,
             v6: config.v6,
             deliver: config.deliver,
             latest: Moment::new(0).unwrap(),
             counts: Counts::new(),
+            outcomes,
             first,
             course: Course::new(),
         })

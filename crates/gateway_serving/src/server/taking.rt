@@ -65,11 +65,12 @@ impl Server {
             (answer_after (settings_in self.old) (setup_in self.old).first (events_in self.old) event.now).outcome → IsOk result }
     {
         let GatewayStep {
-            outcome: _,
+            outcome,
             sends,
             deliver,
         } = self.gateway.step(alloc, event)?;
         self.course = self.course.then(event);
+        self.outcomes.count(&outcome);
         send_all(link, sends.as_slice(), &mut self.counts);
         hand_on(out, &self.deliver, &deliver, &mut self.counts);
         Ok(())

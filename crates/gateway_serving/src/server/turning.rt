@@ -1,11 +1,12 @@
 //! One turn of a running gateway, and all of a run.
 ghost use Rattle.std.specs.Prelude.{◌≡◌, ◌≤◌, ◌<◌, ◌+◌, ◌^◌, [], ◌∷◌, length};
 ghost use Rattle.gateway_machine.specs.declared.event.GatewayEvent.TheVariants.{Nonce as NonceEvent};
-ghost use Rattle.amt_ports.specs.Devices.{feed_at, link_at, out_at, words_at};
-ghost use Rattle.gateway_serving.specs.{Events.{nonce_of}, Servers.{tally_in}, Settings.{AreTurns}, Stages.{BeginsBy, PassesMoment, RunsSo, TurnsSo}, Traces.{WorkDoes, at_work, taking, world}};
+ghost use Rattle.amt_ports.specs.Devices.{link_at, out_at, words_at};
+ghost use Rattle.gateway_serving.specs.{Answering.{waiting_in}, Events.{nonce_of}, Servers.{tally_in}, Settings.{AreTurns}, Stages.{BeginsBy, PassesMoment, RunsSo, TurnsSo}, Traces.{WorkDoes, at_work, taking, world}};
 
 use super::Server;
-use amt_ports::{Clock, End, Feed, Link, OutLink, Words};
+use crate::askers::Askers;
+use amt_ports::{Clock, End, Link, OutLink, Words};
 use gateway_machine::GatewayEvent;
 use std::alloc::Global;
 
@@ -74,55 +75,63 @@ impl Server {
         Ok(())
     }
 
-    // One turn: a nonce, its moment, what the link has, and what the control feed has.
-    fn turn<C: Clock, W: Words, L: Link, F: Feed, O: OutLink>(
+    // One turn: a nonce, its moment, what the link has, and what the control has.
+    fn turn<C: Clock, W: Words, L: Link, K: Link, O: OutLink>(
         &mut self,
         alloc: Global,
         clock: &mut C,
         words: &mut W,
         link: &mut L,
-        control: &mut F,
+        control: &mut K,
         out: &mut O,
         buf: &mut [u8],
+        askers: &mut Askers,
     ) -> Result<(), End>
         requires room { 65536 ≤ length buf.old }
         requires few { tally_in self.old + 258 < 2 ^ 61 }
+        requires no_askers { waiting_in askers.old ≡ [] }
         ensures turns { TurnsSo
             (world (at_work self.old (link_at L.Link link.old) (L.longest_wait link.old) (out_at O.OutLink out.old))
-            (C.given clock.old) (words_at W.Words words.old) (feed_at F.Feed control.old) (F.longest_wait control.old) (length buf.old))
+            (C.given clock.old) (words_at W.Words words.old) (link_at K.Link control.old) (K.longest_wait control.old) (length buf.old) (waiting_in askers.old))
             (world (at_work self.new (link_at L.Link link.new) (L.longest_wait link.new) (out_at O.OutLink out.new))
-            (C.given clock.new) (words_at W.Words words.new) (feed_at F.Feed control.new) (F.longest_wait control.new) (length buf.new)) result }
+            (C.given clock.new) (words_at W.Words words.new) (link_at K.Link control.new) (K.longest_wait control.new) (length buf.new) (waiting_in askers.new)) result }
     {
         self.begin_turn(alloc, clock, words, link, out)?;
         self.hear(alloc, link, out, buf)?;
-        self.hear_control(alloc, link, control, out, buf)
+        self.hear_control(alloc, link, control, out, buf, askers)
     }
 
-    /// So many turns, or those up to the one in which the run ended: why it ended, and how many turns were whole.
-    pub(crate) fn run<C: Clock, W: Words, L: Link, F: Feed, O: OutLink>(
+    /// So many turns, or those up to the one in which the run ended, or after which somebody asked that it ends: why it
+    /// ended, and how many turns were whole.
+    pub(crate) fn run<C: Clock, W: Words, L: Link, K: Link, O: OutLink>(
         &mut self,
         alloc: Global,
         turns: u64,
         clock: &mut C,
         words: &mut W,
         link: &mut L,
-        control: &mut F,
+        control: &mut K,
         out: &mut O,
         buf: &mut [u8],
+        askers: &mut Askers,
     ) -> (End, u64)
         requires turns { AreTurns turns }
         requires room { 65536 ≤ length buf.old }
         requires few { tally_in self.old ≤ 2 ^ 60 }
+        requires no_askers { waiting_in askers.old ≡ [] }
         ensures runs { RunsSo turns
             (world (at_work self.old (link_at L.Link link.old) (L.longest_wait link.old) (out_at O.OutLink out.old))
-            (C.given clock.old) (words_at W.Words words.old) (feed_at F.Feed control.old) (F.longest_wait control.old) (length buf.old))
+            (C.given clock.old) (words_at W.Words words.old) (link_at K.Link control.old) (K.longest_wait control.old) (length buf.old) (waiting_in askers.old))
             (world (at_work self.new (link_at L.Link link.new) (L.longest_wait link.new) (out_at O.OutLink out.new))
-            (C.given clock.new) (words_at W.Words words.new) (feed_at F.Feed control.new) (F.longest_wait control.new) (length buf.new)) result.0 result.1 }
+            (C.given clock.new) (words_at W.Words words.new) (link_at K.Link control.new) (K.longest_wait control.new) (length buf.new) (waiting_in askers.new)) result.0 result.1 }
     {
         for done in 0..turns {
-            match self.turn(alloc, clock, words, link, control, out, buf) {
+            match self.turn(alloc, clock, words, link, control, out, buf, askers) {
                 Ok(()) => {}
                 Err(end) => return (end, done),
+            }
+            if self.end_turn(alloc, done + 1, link, control, out, askers) {
+                return (End::Turns, done + 1);
             }
         }
         (End::Turns, turns)

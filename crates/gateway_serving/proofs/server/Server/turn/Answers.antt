@@ -13,6 +13,7 @@ hear_control-requires g c =
     let heard = hears_few c.in_ok-hear.ensures.hears in record {
       room = omega (arith, heard.1, c.requires.room);
       few = omega (arith, few, heard.0, c.requires.few);
+      no_askers = c.requires.no_askers;
     }
 
 pub returns-in_err-begin_turn : goal.returns-in_err-begin_turn
@@ -26,4 +27,4 @@ returns-in_err-hear g c =
     record { turns = rw (p.1, p.2) (ends_heard _ _ _ _ _ _ c.in_ok-begin_turn.ensures.begins _ c.in_err-hear.ensures.hears) }
 
 pub returns : goal.returns
-returns g c = record { turns = ends_read _ _ _ _ _ _ c.in_ok-begin_turn.ensures.begins _ _ _ _ _ c.in_ok-hear.ensures.hears c.hear_control.ensures.lines }
+returns g c = record { turns = ends_read _ _ _ _ _ _ c.in_ok-begin_turn.ensures.begins _ _ _ c.in_ok-hear.ensures.hears c.hear_control.ensures.lines }

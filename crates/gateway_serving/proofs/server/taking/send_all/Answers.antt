@@ -1,5 +1,4 @@
-use Rattle.std.proofs.{Common.{[], List, ℕ, map, refl, subst, ◌∙◌, arith}, lemmas.List.{take_all}}
-use Rattle.amt_values.specs.declared.peer.Peer.{Peer}
+use Rattle.std.proofs.{Common.{[], List, map, refl, subst, ◌∙◌, arith}, lemmas.List.{take_all}}
 use Rattle.gateway_machine.specs.declared.step.PeerSend.{PeerSend}
 use Rattle.amt_ports.specs.Devices.{link_at}
 use Rattle.gateway_serving.{specs.{Sending.{to_peer}, Taking.{HasSent}}, proofs.Trying.{HasSent-none, HasSent-then, few_more, keeps, sends_more, sent_one}}
@@ -16,8 +15,7 @@ loop-send-preserved g c =
     let before = c.loop-send.invariant in
     let sent = c.send-sent.ensures in
     let more = sends_more c.args.sends.now c.loop-send.send-index c.send-item.result c.as_slice.result.now c.loop-send-test.true c.send-item.is c.as_slice.ensures in record {
-      sent = λ out. subst (λ (list : List (Peer × List ℕ)). HasSent (link_at g.L.Link c.args.link.now) (link_at g.L.Link c.send-sent.new.self) out out c.args.counts.now c.count_send.new.self list []) more
-          (HasSent-then (before.sent out) (sent_one out c.send-item.result.to c.as_slice.result.now c.send-sent.result c.is_ok.result c.is_ok.ensures.value c.count_send.ensures sent.tried sent.tells sent.cause));
+      sent = λ out. HasSent-then (before.sent out) (sent_one out c.send-item.result.to c.as_slice.result.now c.send-sent.result c.is_ok.result c.is_ok.ensures.value c.count_send.ensures sent.tried sent.tells sent.cause) more refl;
       others = keeps c.args.counts.now c.is_ok.result c.count_send.ensures before.others;
       few = omega (arith, before.few, few_more c.loop-send.counts c.count_send.new.self c.is_ok.result c.count_send.ensures);
       coming = sent.coming ∙ before.coming;
