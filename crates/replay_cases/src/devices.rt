@@ -113,11 +113,11 @@ fn link_of(alloc: Global, script: Script<'_>) -> Result<MemLink, AllocError> {
     Ok(MemLink::failing(alloc, answers, receivings, sends))
 }
 
-// Whether the line wants a control socket of a relay.
+// Whether the line wants a control socket, which a relay may lack.
 fn asks(line: &str) -> bool {
     matches!(
         read_event(line),
-        Some(Event::Control | Event::Ask(_, _) | Event::AskingCloses)
+        Some(Event::Control | Event::Ask(_, _) | Event::ControlCloses)
     )
 }
 
@@ -131,18 +131,23 @@ fn copies_of(alloc: Global, script: Script<'_>) -> Result<MemCopies, AllocError>
     Ok(MemCopies::new(counts))
 }
 
-fn control_of(
+fn control_of(alloc: Global, script: Script<'_>) -> Result<MemLink, AllocError> {
+    let answers = link_answers(alloc, Receiver::Control, script.lines)?;
+    let receivings = script.failing(alloc, Call::Control)?;
+    let sends = script.failing(alloc, Call::Answer)?;
+    Ok(MemLink::failing(alloc, answers, receivings, sends))
+}
+
+// A relay has one only where the script wants it.
+fn control_of_relay(
     alloc: Global,
     script: Script<'_>,
 ) -> Result<Option<Control<MemLink, MemCopies>>, AllocError> {
     if !script.lines.lines().any(asks) {
         return Ok(None);
     }
-    let answers = link_answers(alloc, Receiver::Control, script.lines)?;
-    let receivings = script.failing(alloc, Call::Ask)?;
-    let sends = script.failing(alloc, Call::Answer)?;
     Ok(Some(Control {
-        link: MemLink::failing(alloc, answers, receivings, sends),
+        link: control_of(alloc, script)?,
         copies: copies_of(alloc, script)?,
     }))
 }
@@ -199,11 +204,10 @@ fn spawner_of<'a, R: Threads>(
     Ok(ListedSpawner::new(rt, Starter { rt }, refused))
 }
 
-// What comes in, and what tells moments and words.
+// What both ends have: a link, and what tells moments and words.
 #[derive(Drop)]
 struct Givers {
     link: MemLink,
-    feed: MemFeed,
     clock: MemClock,
     words: MemWords,
 }
@@ -211,14 +215,8 @@ struct Givers {
 fn givers_of(alloc: Global, script: Script<'_>) -> Result<Givers, AllocError> {
     let clock = MemClock::new(script.moments(alloc)?);
     let words = words_of(alloc, script)?;
-    let feed = feed_of(alloc, script)?;
     let link = link_of(alloc, script)?;
-    Ok(Givers {
-        link,
-        feed,
-        clock,
-        words,
-    })
+    Ok(Givers { link, clock, words })
 }
 
 fn relay_of<'a, R: Threads + Wait + 'static>(
@@ -228,11 +226,12 @@ fn relay_of<'a, R: Threads + Wait + 'static>(
 ) -> Result<OfRelay<'a, R>, AllocError> {
     let spawner = spawner_of(rt, alloc, script)?;
     let outs = outs_of(alloc, script)?;
-    let control = control_of(alloc, script)?;
+    let control = control_of_relay(alloc, script)?;
+    let feed = feed_of(alloc, script)?;
     let givers = givers_of(alloc, script)?;
     Ok(RelayDevices {
         link: givers.link,
-        feed: givers.feed,
+        feed,
         clock: givers.clock,
         words: givers.words,
         outs,
@@ -243,10 +242,11 @@ fn relay_of<'a, R: Threads + Wait + 'static>(
 
 fn gateway_of(alloc: Global, script: Script<'_>) -> Result<OfGateway, AllocError> {
     let out = out_of(alloc, script, 1)?;
+    let control = control_of(alloc, script)?;
     let givers = givers_of(alloc, script)?;
     Ok(GatewayDevices {
         link: givers.link,
-        control: givers.feed,
+        control,
         out,
         clock: givers.clock,
         words: givers.words,

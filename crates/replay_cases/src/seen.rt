@@ -77,13 +77,14 @@ fn append_set<R>(alloc: Global, text: &mut String, set: &Set<'_, R>) -> Result<(
         }
         DeviceSet::Gateway(devices) => {
             append_sends(alloc, text, "=", devices.link.tried())?;
-            append_out(alloc, text, &devices.out)
+            append_out(alloc, text, &devices.out)?;
+            append_answers(alloc, text, devices.control.tried())
         }
     }
 }
 
-/// What each device that came back tried to send: the link first, then the links out in order, and then what a
-/// relay's control socket answered.
+/// What each device that came back tried to send: the link first, then the links out in order, and then what the
+/// control socket answered.
 pub fn sends_text<R>(alloc: Global, live: &Sets<'_, R>) -> Result<String, AllocError> {
     let mut text = String::new(alloc);
     for set in live.returned() {
