@@ -19,29 +19,6 @@ use std::thread::Threads;
 /// Starts a relay's workers in threads.
 pub type Spawner<'a, R> = ListedSpawner<&'a R, Starter<'a, R>>;
 
-/// Where the case's set of devices is opened.
-pub type Sets<'a, R> = MemLive<
-    MemLink,
-    MemFeed,
-    MemClock,
-    MemWords,
-    MemOut,
-    Spawner<'a, R>,
-    MemLink,
-    MemCopies,
->;
-
-pub type Set<'a, R> = DeviceSet<
-    MemLink,
-    MemFeed,
-    MemClock,
-    MemWords,
-    MemOut,
-    Spawner<'a, R>,
-    MemLink,
-    MemCopies,
->;
-
 type OfRelay<'a, R> = RelayDevices<
     MemLink,
     MemFeed,
@@ -53,7 +30,12 @@ type OfRelay<'a, R> = RelayDevices<
     MemCopies,
 >;
 
-type OfGateway = GatewayDevices<MemLink, MemFeed, MemOut, MemClock, MemWords>;
+type OfGateway = GatewayDevices<MemLink, MemLink, MemOut, MemClock, MemWords>;
+
+pub type Set<'a, R> = DeviceSet<OfRelay<'a, R>, OfGateway>;
+
+/// Where the case's set of devices is opened.
+pub type Sets<'a, R> = MemLive<OfRelay<'a, R>, OfGateway>;
 
 /// What the devices of a case do.
 #[derive(Clone, Copy)]

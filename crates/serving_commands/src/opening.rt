@@ -6,14 +6,18 @@
 mod asked;
 mod counted;
 mod devices;
+mod gateway_set;
 mod host;
 mod live;
 mod memory;
+mod relay_set;
 mod returns;
+mod sets;
 
 pub use asked::Opening;
 pub use counted::{CountedOut, SharedCopies};
 pub use devices::{DeviceSet, GatewayDevices, RelayDevices};
-pub use host::{HostLive, WorkerThreads};
+pub use host::{HostGateway, HostLive, HostRelay, WorkerThreads};
 pub use live::{Live, OpenFault};
 pub use memory::MemLive;
+pub use sets::{GatewayRan, GatewaySet, RelayRan, RelaySet};

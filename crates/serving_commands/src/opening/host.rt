@@ -7,7 +7,7 @@ use crate::opening::devices::{GatewayDevices, RelayDevices};
 use crate::opening::live::{Live, OpenFault};
 use amt_ports::{
     Failed, GivenBy, HostClock, HostWords, Starts, ThreadSpawner, UdpControl, UdpFeed, UdpLink,
-    UdpOut, open_control, open_sockets,
+    UdpOut, open_control, open_gateway_sockets, open_sockets,
 };
 use amt_values::Peer;
 use relay_serving::Control;
@@ -43,7 +43,8 @@ impl<R: Threads + Wait + 'static> Starts<Worker<HostOut>> for WorkerThreads<R> {
     }
 }
 
-type HostDevices<R> = RelayDevices<
+/// What a relay runs on at the machine that `R` runs on.
+pub type HostRelay<R> = RelayDevices<
     UdpLink,
     UdpFeed,
     HostClock<R>,
@@ -54,7 +55,8 @@ type HostDevices<R> = RelayDevices<
     SharedCopies,
 >;
 
-type HostGateway<R> = GatewayDevices<UdpLink, UdpFeed, HostOut, HostClock<R>, HostWords<R>>;
+/// What a gateway runs on there.
+pub type HostGateway<R> = GatewayDevices<UdpLink, UdpControl, HostOut, HostClock<R>, HostWords<R>>;
 
 /// The sockets, clock, random words and threads of the machine.
 #[derive(Debug, Drop)]
@@ -158,21 +160,9 @@ impl<R> Live for HostLive<R>
 where
     R: Net + Threads + Wait + Clock + RandomSource + Files + Copy + Drop + 'static,
 {
-    type L = UdpLink;
+    type Relay = HostRelay<R>;
 
-    type F = UdpFeed;
-
-    type C = HostClock<R>;
-
-    type W = HostWords<R>;
-
-    type O = HostOut;
-
-    type P = ThreadSpawner<R, WorkerThreads<R>>;
-
-    type K = UdpControl;
-
-    type N = SharedCopies;
+    type Gateway = HostGateway<R>;
 
     ghost sets = { λ _. None };
 
@@ -190,13 +180,13 @@ where
         feed: &Peer,
         control: &Option<Peer>,
         slots: u32,
-    ) -> Result<HostDevices<R>, OpenFault> {
+    ) -> Result<HostRelay<R>, OpenFault> {
         let opened = open_relay_devices(self.rt, self.alloc, listen, feed, control, slots);
         self.count(&opened);
         opened
     }
 
-    fn return_relay(&mut self, devices: HostDevices<R>)
+    fn return_relay(&mut self, devices: HostRelay<R>)
         ensures faults { self.new.faults ≡ self.old.faults }
     {
         // The sockets are closed here.
@@ -230,7 +220,7 @@ fn open_relay_devices<R>(
     feed: &Peer,
     control: &Option<Peer>,
     slots: u32,
-) -> Result<HostDevices<R>, OpenFault>
+) -> Result<HostRelay<R>, OpenFault>
 where
     R: Net + Threads + Wait + Clock + RandomSource + Files + Copy + Drop + 'static,
     ensures outs { IfOk result (λ devices. length devices.outs ≡ slots) }
@@ -263,7 +253,7 @@ where
     R: Net + Clock + RandomSource + Files + Copy,
 {
     let_sleeps_end_late(&rt);
-    let Ok((link, control)) = open_sockets(&rt, listen, control) else {
+    let Ok((link, control)) = open_gateway_sockets(&rt, listen, control) else {
         return Err(OpenFault::Failed);
     };
     let Ok(out) = link.worker_end() else {
