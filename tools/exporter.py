@@ -683,19 +683,25 @@ def a_prometheus_answers_each_query_of_the_board():
     board = json.loads((EXAMPLES / "metrics" / "board.json").read_text())
     rising = [whole(*(f"= {it} {number}" for it in ANSWERED + IGNORED), **{it: 3 * number for it in PLAIN})
               for number in range(1, 200)]
+    words = [*(f"refused {it}" for it in GATEWAY_REFUSED), *(f"ignored {it}" for it in GATEWAY_IGNORED)]
+    of_gateway = [it for number in range(1, 200)
+                  for it in (whole(*(f"= {it} {number}" for it in words), plain=GATEWAY_PLAIN,
+                                   **{it: 3 * number for it in GATEWAY_PLAIN}), shown("active"))]
     with contextlib.ExitStack() as held:
-        end = held.enter_context(contextlib.closing(StandIn(*rising)))
-        exporter = held.enter_context(exporting(a=end.place, gone=f"{ADDRESS}:{no_port()}"))
+        relay = held.enter_context(contextlib.closing(StandIn(*rising)))
+        gateway = held.enter_context(contextlib.closing(StandIn(*of_gateway)))
+        exporter = held.enter_context(exporting(a=relay.place, b=gateway.place, gone=f"{ADDRESS}:{no_port()}"))
         folder = held.enter_context(tempfile.TemporaryDirectory())
         server = held.enter_context(contextlib.closing(Prometheus(exporter, folder)))
         server.wait("count_over_time(amt_relay_packets_total[1m]) >= 6")
-        expect(server.get("label/end/values") == ["a", "gone"], "other ends")
-        expect(len(list(queries_of(board))) >= 10, "few queries")
+        expect(server.get("label/end/values") == ["a", "b", "gone"], "other ends")
+        expect(len(list(queries_of(board))) >= 16, "few queries")
         for title, query in queries_of(board):
             result = server.get("query", query=query)["result"]
             values = {it["metric"]["end"]: float(it["value"][1]) for it in result}
-            expect(set(values) == ({"a", "gone"} if title == "Up" else {"a"}), f"{title}: {query}: {result}")
-            expect(values["a"] > 0, f"{title}: {query}: {result}")
+            wanted = {"a", "b", "gone"} if title == "Up" else {"b"} if "amt_gateway" in query else {"a"}
+            expect(set(values) == wanted, f"{title}: {query}: {result}")
+            expect(all(values[it] > 0 for it in wanted - {"gone"}), f"{title}: {query}: {result}")
 
 
 # A real relay
