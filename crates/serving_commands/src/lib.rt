@@ -19,8 +19,8 @@ mod settings;
 pub use fault::ServingFault;
 pub use kinds::FromSettings;
 pub use opening::{
-    CountedOut, DeviceSet, GatewayDevices, GatewayRan, GatewaySet, HostGateway, HostLive, HostRelay,
-    Live, MemLive, OpenFault, Opening, RelayDevices, RelayRan, RelaySet, SharedCopies,
+    CountedOut, DeviceSet, GatewayDevices, GatewayRan, GatewaySet, HostGateway, HostLive, HostOut,
+    HostRelay, Live, MemLive, OpenFault, Opening, RelayDevices, RelayRan, RelaySet, SharedCopies,
     WorkerThreads,
 };
 pub use reading::read_settings;
