@@ -1,6 +1,7 @@
 //! The devices in memory that a case scripts.
 
 mod arrivals;
+mod relays;
 mod starters;
 
 use crate::failing::{Call, FailingCall, numbers_of};
@@ -9,6 +10,7 @@ use amt_ports::{ListedSpawner, MemClock, MemFeed, MemLink, MemOut, MemWords, Out
 use amt_values::{Ip, Moment, Peer};
 use arrivals::{Receiver, feed_answers, link_answers};
 use relay_serving::{Control, CopyCount, MemCopies};
+use relays::OfRelay;
 use replication_workers::Outs;
 use serving_commands::{DeviceSet, GatewayDevices, MemLive, RelayDevices};
 use starters::Starter;
@@ -18,17 +20,6 @@ use std::thread::Threads;
 
 /// Starts a relay's workers in threads.
 pub type Spawner<'a, R> = ListedSpawner<&'a R, Starter<'a, R>>;
-
-type OfRelay<'a, R> = RelayDevices<
-    MemLink,
-    MemFeed,
-    MemClock,
-    MemWords,
-    MemOut,
-    Spawner<'a, R>,
-    MemLink,
-    MemCopies,
->;
 
 type OfGateway = GatewayDevices<MemLink, MemLink, MemOut, MemClock, MemWords>;
 
@@ -211,14 +202,16 @@ fn relay_of<'a, R: Threads + Wait + 'static>(
     let control = control_of_relay(alloc, script)?;
     let feed = feed_of(alloc, script)?;
     let givers = givers_of(alloc, script)?;
-    Ok(RelayDevices {
-        link: givers.link,
-        feed,
-        clock: givers.clock,
-        words: givers.words,
-        outs,
-        spawner,
-        control,
+    Ok(OfRelay {
+        devices: RelayDevices {
+            link: givers.link,
+            feed,
+            clock: givers.clock,
+            words: givers.words,
+            outs,
+            spawner,
+            control,
+        },
     })
 }
 
