@@ -16,7 +16,7 @@ pub returns-clause-ran : goal.returns-clause-ran
 returns-clause-ran g c =
     let opening = c.in-Ok.ensures in
     let back = c.return_relay.ensures in
-    let served = c.serve in
+    let served = c.serve-devices in
     ∥∥₁_map served.ensures
     (ran _ _ c.args.config.now c.args.plan.now c.args.live.now c.open_relay.new.self c.return_relay.new.self c.in-Ok.devices
     served.result.devices (views_of served.result.views) served.result.report c.settings.result c.max-slots.result c.settings.ensures c.max-slots.ensures
