@@ -1,8 +1,8 @@
 """Tests amt-exporter: tools/exporter.sh [COMMAND [WORD..]]
 
-The ends are stand-ins that answer as a test says, and a real relay where COMMAND, the binary of `amt`, is given. Where there
-is a `promtool` it judges the page, and where there is a `prometheus` it scrapes it and answers each query of the board. It
-says of each test whether it passed, and ends with 1 where one did not.
+The ends are stand-ins that answer as a test says, and a real relay and gateway where COMMAND, the binary of `amt`, is given.
+Where there is a `promtool` it judges the page, and where there is a `prometheus` it scrapes it and answers each query of the
+board. It says of each test whether it passed, and ends with 1 where one did not.
 """
 import asyncio
 import contextlib
@@ -28,12 +28,17 @@ from loopback import AMT_PORT, HERE, IS_EX, Endpoint, Failed, bound, counts_of, 
 EXPORTER, AMTCTL, EXAMPLES = str(HERE / "amt-exporter"), str(HERE / "amtctl"), HERE.parent / "examples"
 ADDRESS = f"127.67.{os.getpid() % 255}.1"
 FEED, CONTROL = 9000, 9003
+LISTEN, DELIVER, GATEWAY_CONTROL = 40000, 9001, 9002
 SOURCE, GROUP = "203.0.113.5", "233.252.0.1"
 # How long something may take that comes at once. The machine may be busy.
 SOON_S = 8.0
 PLAIN = "turns datagrams packets updated torn sent unsent inline starved late owed published rows".split()
 ANSWERED = "advertised queried updated torndown copied".split()
 IGNORED = "badsource refused wrongkind badmac unlawful limit notunnel toobig notforwarded".split()
+GATEWAY_PLAIN = "turns datagrams controls bad_controls delivered unsent starved".split()
+EXCHANGES = "discovering requesting active idle".split()
+GATEWAY_REFUSED = "taken nosocket sources report".split()
+GATEWAY_IGNORED = "refused kind state sender nonce inner family body notgeneral head scope notwanted".split()
 TESTS = []
 
 
@@ -48,14 +53,19 @@ def test(function):
 
 # Ends
 
-def counts(*more, **numbers):
+def counts(*more, plain=PLAIN, **numbers):
     """The lines of an answer to `counts`, with a number for each name and 0 for the others, and then more of them."""
-    return "".join(f"{name} {numbers.get(name, 0)}\n" for name in PLAIN) + "".join(f"{it}\n" for it in more)
+    return "".join(f"{name} {numbers.get(name, 0)}\n" for name in plain) + "".join(f"{it}\n" for it in more)
 
 
 def whole(*more, **numbers):
     """Such an answer, in one datagram."""
     return [counts(*more, **numbers) + ". 1\n"]
+
+
+def shown(state):
+    """An answer to `show`, in one datagram."""
+    return [f"state {state}\nrelay none\ndue none\n* a 233.252.0.1 exclude\n. 1\n"]
 
 
 class StandIn:
@@ -223,6 +233,63 @@ def each_count_is_a_sample():
 
 
 @test
+def each_count_of_a_gateway_is_a_sample():
+    numbers = {name: 100 + place for place, name in enumerate(GATEWAY_PLAIN)}
+    words = ["quiet", "drawn", *EXCHANGES, "changed", "kept", "delivered", *(f"refused {it}" for it in GATEWAY_REFUSED),
+             *(f"ignored {it}" for it in GATEWAY_IGNORED)]
+    said = {word: 200 + place for place, word in enumerate(words)}
+    lines = (f"= {word} {number}" for word, number in said.items())
+    with contextlib.closing(StandIn(whole(*lines, plain=GATEWAY_PLAIN, **numbers), shown("active"))) as end:
+        with exporting([], a=end.place) as exporter:
+            samples = exporter.samples()
+        expect(end.questions == [b"counts\n", b"show\n"], f"questions {end.questions}")
+    names = {"controls": "lines_total", "bad_controls": "bad_lines_total"}
+    names |= {line: f"{line}_total" for line in GATEWAY_PLAIN if line not in names}
+    wanted = {f'amt_gateway_{name}{{end="a"}}': numbers[line] for line, name in names.items()}
+    wanted |= {f'amt_gateway_exchanges_total{{end="a",kind="{word}"}}': said[word] for word in EXCHANGES}
+    wanted |= {f'amt_gateway_calls_total{{end="a",kind="{word}"}}': said[word] for word in ("changed", "kept")}
+    wanted |= {f'amt_gateway_refused_total{{end="a",cause="{word}"}}': said[f"refused {word}"] for word in GATEWAY_REFUSED}
+    wanted |= {f'amt_gateway_ignored_total{{end="a",cause="{word}"}}': said[f"ignored {word}"] for word in GATEWAY_IGNORED}
+    wanted |= {f'amt_gateway_state{{end="a",state="{word}"}}': int(word == "active") for word in EXCHANGES}
+    wanted |= {'amt_gateway_quiet_moments_total{end="a"}': said["quiet"], 'amt_gateway_nonces_total{end="a"}': said["drawn"],
+               'amt_unread_lines{end="a"}': 0}
+    wanted = {name: str(number) for name, number in wanted.items()} | {'amt_up{end="a"}': "1"}
+    expect(samples == wanted, f"{set(samples.items()) ^ set(wanted.items())}")
+
+
+@test
+def a_gateway_is_in_one_of_four_states():
+    answers = [it for state in EXCHANGES for it in (whole(plain=GATEWAY_PLAIN), shown(state))]
+    # (of an answer of several datagrams the first one has the state, and may come last, or alone)
+    answers += [whole(plain=GATEWAY_PLAIN), ["* b 233.252.0.2 exclude\n. 2\n", "state idle\nrelay none\n"]]
+    with contextlib.closing(StandIn(*answers)) as end, exporting([], a=end.place) as exporter:
+        for wanted in [*EXCHANGES, "idle"]:
+            samples = exporter.samples()
+            states = {it: samples[f'amt_gateway_state{{end="a",state="{it}"}}'] for it in EXCHANGES}
+            expect(states == {it: str(int(it == wanted)) for it in EXCHANGES}, f"{wanted}: {states}")
+
+
+@test
+def a_gateway_that_shows_no_state_is_down():
+    for answer, reason in (([], "it shows no state"), ([". 1\n"], "it shows no state"), (shown("novel"), "it shows no state"),
+                           (["bad word\n. 1\n"], "its answer is: bad word")):
+        with contextlib.closing(StandIn(whole(plain=GATEWAY_PLAIN), answer)) as end:
+            expect_down(end.place, reason)
+
+
+@test
+def a_relay_and_a_gateway_have_their_own_samples():
+    relay, gateway = StandIn(whole(packets=3)), StandIn(whole(plain=GATEWAY_PLAIN, delivered=4), shown("idle"))
+    with contextlib.closing(relay), contextlib.closing(gateway):
+        with exporting([], relay=relay.place, gateway=gateway.place) as exporter:
+            samples = exporter.samples()
+    expect(samples['amt_relay_packets_total{end="relay"}'] == "3", f"{samples}")
+    expect(samples['amt_gateway_delivered_total{end="gateway"}'] == "4", f"{samples}")
+    expect(all("amt_gateway" not in it for it in of(samples, "relay")), f"{samples}")
+    expect(all("amt_relay" not in it for it in of(samples, "gateway")), f"{samples}")
+
+
+@test
 def an_outcome_that_never_was_is_0():
     with ends_of(whole()) as [end], exporting([], a=end.place) as exporter:
         samples = exporter.samples()
@@ -232,8 +299,11 @@ def an_outcome_that_never_was_is_0():
 
 @test
 def each_metric_is_described_once_and_right():
-    with ends_of(whole(), whole()) as [one, two], exporting([], one=one.place, two=two.place) as exporter:
-        lines = exporter.get()[2].splitlines()
+    three = StandIn(whole(plain=GATEWAY_PLAIN), shown("idle"))
+    with ends_of(whole(), whole()) as [one, two], contextlib.closing(three):
+        with exporting([], one=one.place, two=two.place, three=three.place) as exporter:
+            lines = exporter.get()[2].splitlines()
+    expect(any(line.startswith("amt_gateway_state{") for line in lines), "no gateway")
     described = {}
     for line in lines:
         name = re.match(r"(?:# (?:HELP|TYPE) )?([a-z_]+)", line)[1]
@@ -252,8 +322,10 @@ def promtool_finds_nothing():
     if not shutil.which("promtool"):
         raise Skipped("there is no promtool")
     gone = f"{ADDRESS}:{no_port()}"
-    with ends_of(whole("= badmac 3", packets=2**64)) as [end], exporting(a=end.place, gone=gone) as exporter:
-        text = exporter.get()[2]
+    gateway = StandIn(whole("= ignored nonce 3", plain=GATEWAY_PLAIN), shown("active"))
+    with ends_of(whole("= badmac 3", packets=2**64)) as [end], contextlib.closing(gateway):
+        with exporting(a=end.place, b=gateway.place, gone=gone) as exporter:
+            text = exporter.get()[2]
     ran = subprocess.run(["promtool", "check", "metrics"], input=text, text=True, capture_output=True, timeout=60, check=False)
     expect((ran.returncode, ran.stdout, ran.stderr) == (0, "", ""), f"{ran}")
 
@@ -361,7 +433,8 @@ def an_answer_that_is_no_counts_is_none():
     malformed = [b"", "turns 1", right + ". 1", right + "\n. 1\n", right + "turns 1\n. 1\n",
                  right + "= badmac 1\n= badmac 1\n. 1\n", right + "= badmac -1\n. 1\n", right + "= badmac\n. 1\n",
                  right + "= badmac 1.5\n. 1\n", right + f"= badmac {10 ** 20}\n. 1\n", right + ". 1\n= badmac 1\n. 1\n",
-                 right.encode() + b"= badmac \xff\n. 1\n", right + "= badmac \u0661\n. 1\n", bytes(1400)]
+                 right.encode() + b"= badmac \xff\n. 1\n", right + "= badmac \u0661\n. 1\n", bytes(1400),
+                 right + "= ignored nonce 1 1\n. 1\n", right + "= ignored 1 nonce\n. 1\n", right + "ignored nonce 1\n. 1\n"]
     for it in malformed:
         with ends_of([it]) as [end]:
             expect_down(end.place, "its answer is malformed")
@@ -610,19 +683,25 @@ def a_prometheus_answers_each_query_of_the_board():
     board = json.loads((EXAMPLES / "metrics" / "board.json").read_text())
     rising = [whole(*(f"= {it} {number}" for it in ANSWERED + IGNORED), **{it: 3 * number for it in PLAIN})
               for number in range(1, 200)]
+    words = [*(f"refused {it}" for it in GATEWAY_REFUSED), *(f"ignored {it}" for it in GATEWAY_IGNORED)]
+    of_gateway = [it for number in range(1, 200)
+                  for it in (whole(*(f"= {it} {number}" for it in words), plain=GATEWAY_PLAIN,
+                                   **{it: 3 * number for it in GATEWAY_PLAIN}), shown("active"))]
     with contextlib.ExitStack() as held:
-        end = held.enter_context(contextlib.closing(StandIn(*rising)))
-        exporter = held.enter_context(exporting(a=end.place, gone=f"{ADDRESS}:{no_port()}"))
+        relay = held.enter_context(contextlib.closing(StandIn(*rising)))
+        gateway = held.enter_context(contextlib.closing(StandIn(*of_gateway)))
+        exporter = held.enter_context(exporting(a=relay.place, b=gateway.place, gone=f"{ADDRESS}:{no_port()}"))
         folder = held.enter_context(tempfile.TemporaryDirectory())
         server = held.enter_context(contextlib.closing(Prometheus(exporter, folder)))
         server.wait("count_over_time(amt_relay_packets_total[1m]) >= 6")
-        expect(server.get("label/end/values") == ["a", "gone"], "other ends")
-        expect(len(list(queries_of(board))) >= 10, "few queries")
+        expect(server.get("label/end/values") == ["a", "b", "gone"], "other ends")
+        expect(len(list(queries_of(board))) >= 16, "few queries")
         for title, query in queries_of(board):
             result = server.get("query", query=query)["result"]
             values = {it["metric"]["end"]: float(it["value"][1]) for it in result}
-            expect(set(values) == ({"a", "gone"} if title == "Up" else {"a"}), f"{title}: {query}: {result}")
-            expect(values["a"] > 0, f"{title}: {query}: {result}")
+            wanted = {"a", "b", "gone"} if title == "Up" else {"b"} if "amt_gateway" in query else {"a"}
+            expect(set(values) == wanted, f"{title}: {query}: {result}")
+            expect(all(values[it] > 0 for it in wanted - {"gone"}), f"{title}: {query}: {result}")
 
 
 # A real relay
@@ -660,12 +739,20 @@ def session(feed_packets):
         it.socket.close()
 
 
-def stop_line():
-    """What the relay's unit runs to stop it, for this control socket and with this amtctl."""
-    unit = (EXAMPLES / "systemd" / "amt-relay.service").read_text()
-    line = re.search(r"^ExecStop=-/bin/sh -c '(.*)'$", unit, re.M)
-    expect(line is not None and "/usr/local/bin/amtctl 127.0.0.1:9003 " in line[1], "another ExecStop")
-    return line[1].replace("$$", "$").replace("/usr/local/bin/amtctl 127.0.0.1:9003", f"{AMTCTL} {ADDRESS}:{CONTROL}")
+def stop_line(unit, port, control):
+    """What an end's unit runs to stop it, with this control socket for that port, and with this amtctl."""
+    line = re.search(r"^ExecStop=-/bin/sh -c '(.*)'$", (EXAMPLES / "systemd" / f"{unit}.service").read_text(), re.M)
+    asks = f"/usr/local/bin/amtctl 127.0.0.1:{port} "
+    expect(line is not None and asks in line[1], "another ExecStop")
+    return line[1].replace("$$", "$").replace(asks, f"{AMTCTL} {ADDRESS}:{control} ")
+
+
+def stopped(end, line):
+    """The report of an end after what its unit runs: with that written the line ends, and not before."""
+    subprocess.run(["sh", "-c", line], env=dict(os.environ, MAINPID=str(end.process.pid)), timeout=60, check=False)
+    status = end.process.poll()
+    expect(status == 0, f"status {status}")
+    return counts_of(end.process.communicate(timeout=SOON_S)[0])
 
 
 def real_relay_is_counted_and_stopped(command):
@@ -687,18 +774,71 @@ def real_relay_is_counted_and_stopped(command):
             by_hand = subprocess.run([AMTCTL, place, "counts"], text=True, capture_output=True, timeout=60, check=True).stdout
             for line in by_hand.splitlines():
                 expect(re.match("(= )?[a-z]+ [0-9]+$", line), line)
-            # With its report written the unit's stop ends, and not before.
-            with_process = dict(os.environ, MAINPID=str(relay.process.pid))
-            subprocess.run(["sh", "-c", stop_line()], env=with_process, timeout=60, check=False)
-            status = relay.process.poll()
-            report = counts_of(relay.process.communicate(timeout=SOON_S)[0])
-            expect(status == 0 and report["packets"] == "5", f"status {status}, {report}")
+            report = stopped(relay, stop_line("amt-relay", 9003, CONTROL))
+            expect(report["packets"] == "5", f"{report}")
             expect(up(exporter.samples(), "relay") == "0", "it has ended")
     # Where there is no process of the unit any more, another one's socket is left alone.
     with tempfile.TemporaryDirectory() as folder, relay_of(command, folder) as relay:
-        subprocess.run(["sh", "-c", stop_line()], env={"PATH": os.environ["PATH"]}, timeout=60, check=False)
+        line = stop_line("amt-relay", 9003, CONTROL)
+        subprocess.run(["sh", "-c", line], env={"PATH": os.environ["PATH"]}, timeout=60, check=False)
         time.sleep(0.3)
         expect(relay.process.poll() is None, "another relay was stopped")
+
+
+# A real gateway
+
+@contextlib.contextmanager
+def gateway_of(command, folder):
+    settings = {"family": "v4", "source": loopback.HOST, "listen": f"{ADDRESS}:{LISTEN}", "deliver": f"{ADDRESS}:{DELIVER}",
+                "control": f"{ADDRESS}:{GATEWAY_CONTROL}", "relay": f"{ADDRESS}:{AMT_PORT}"}
+    path = loopback.write_settings(pathlib.Path(folder) / "gateway.toml", settings)
+    made = loopback.End([*command, "gateway", path], ADDRESS, [LISTEN, GATEWAY_CONTROL])
+    try:
+        yield made
+    finally:
+        made.stop()
+
+
+def wait_for(exporter, sample, value):
+    """The samples, once one has this value."""
+    until = time.monotonic() + SOON_S
+    while (samples := exporter.samples()).get(sample) != value:
+        expect(time.monotonic() < until, f"{sample}: {samples}")
+        time.sleep(0.1)
+    return samples
+
+
+def real_gateway_is_counted_and_stopped(command):
+    asked = f"{ADDRESS}:{GATEWAY_CONTROL}"
+    with contextlib.ExitStack() as held:
+        folder = held.enter_context(tempfile.TemporaryDirectory())
+        held.enter_context(relay_of(command, folder))
+        gateway = held.enter_context(gateway_of(command, folder))
+        host = held.enter_context(bound(ADDRESS, DELIVER))
+        sender = held.enter_context(bound(ADDRESS))
+        places = {"relay": f"{ADDRESS}:{CONTROL}", "gateway": asked}
+        exporter = held.enter_context(exporting(["gateway: nothing listens there"], **places))
+        wait_for(exporter, 'amt_gateway_state{end="gateway",state="idle"}', "1")
+        for line in (f"open a {GROUP} exclude", f"open a {GROUP} exclude", "jump"):
+            sender.sendto(line.encode(), (ADDRESS, GATEWAY_CONTROL))
+        wait_for(exporter, 'amt_relay_memberships{end="relay"}', "1")
+        for _ in range(5):
+            sender.sendto(packet(SOURCE, GROUP, b"text"), (ADDRESS, FEED))
+        samples = wait_for(exporter, 'amt_gateway_delivered_total{end="gateway"}', "5")
+        wanted = {'state{end="gateway",state="active"}': "1", 'state{end="gateway",state="idle"}': "0",
+                  'refused_total{end="gateway",cause="taken"}': "1", 'bad_lines_total{end="gateway"}': "1",
+                  'exchanges_total{end="gateway",kind="active"}': "1", 'unsent_total{end="gateway"}': "0"}
+        for name, value in wanted.items():
+            expect(samples[f"amt_gateway_{name}"] == value, f"{name}: {samples}")
+        expect(samples['amt_unread_lines{end="gateway"}'] == "0", "lines that it doesn't know")
+        for _ in range(5):
+            expect(host.recv(2000).endswith(b"text"), "a packet is missing")
+        by_hand = subprocess.run([AMTCTL, asked, "show"], text=True, capture_output=True, timeout=60, check=True).stdout
+        expect(re.fullmatch(f"state active\nrelay {ADDRESS}:{AMT_PORT}\ndue [0-9]+\n\\* a {GROUP} exclude\n", by_hand), by_hand)
+        expect(stopped(gateway, stop_line("amt-gateway", 9002, GATEWAY_CONTROL))["delivered"] == "5", "another report")
+        # The relay heard that the group is left.
+        wait_for(exporter, 'amt_relay_memberships{end="relay"}', "0")
+        expect(up(exporter.samples(), "gateway") == "0", "it has ended")
 
 
 def tests(words):
@@ -707,6 +847,8 @@ def tests(words):
     found = {it.__name__: it for it in TESTS}
     if command != "-":
         found["a_real_relay_is_counted_and_stopped"] = lambda: real_relay_is_counted_and_stopped(loopback.command_of([command]))
+        found["a_real_gateway_is_counted_and_stopped"] = (
+            lambda: real_gateway_is_counted_and_stopped(loopback.command_of([command])))
     return {name: it for name, it in found.items() if not names or any(word in name for word in names)}
 
 

@@ -80,14 +80,14 @@ module _ {X S W : Type 0} (kind : Kind S W) (Reads : X → List ℕ → Type 0) 
   fault_by spelled errors.Memory fault is at none = subst (IsErrorBy lines_task bytes) (sym is) tt
 
 -- where memory runs out for the arguments, and nothing is touched, no more is said of a command
-pub starved : {G V L F C W O P K N T A : Type 0} (kept : FilesTell G) (told : Tells V L F C W O P K N T) (files : G) (live : V) (written : A → Option (List ℕ)) (out : A) (line : List ℕ)
+pub starved : {F V R G A : Type 0} (kept : FilesTell F) (told : Tells V R G) (files : F) (live : V) (written : A → Option (List ℕ)) (out : A) (line : List ℕ)
     (command : Command) → ServesFor kept told files files live live command written out out 7 line
 starved kept told files live written out line (RelayServing file turns workers) = untouched refl refl refl refl
 starved kept told files live written out line (GatewayServing file turns) = untouched refl refl refl refl
 starved kept told files live written out line command = (refl, refl)
 
 -- a command that isn't `relay` or `gateway` touches no files and devices
-pub unserved : {G V L F C W O P K N T A : Type 0} (kept : FilesTell G) (told : Tells V L F C W O P K N T) (files files' : G) (live live' : V) (written : A → Option (List ℕ)) (out out' : A)
+pub unserved : {F V R G A : Type 0} (kept : FilesTell F) (told : Tells V R G) (files files' : F) (live live' : V) (written : A → Option (List ℕ)) (out out' : A)
     (status : ℕ) (line : List ℕ) (words : List (List ℕ)) (command : Command) → IsCommandLine command words
     → ServesFor kept told files files' live live' command written out out' status line → (IsRelayLine words → ⊥) → (IsGatewayLine words → ⊥)
     → (files' ≡ files) × (live' ≡ live)

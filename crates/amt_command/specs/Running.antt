@@ -31,13 +31,13 @@ relay_reporting = record { end_of = λ report. report.end; text_of = relay_texts
 abbrev pub gateway_reporting : Reporting GatewayServed
 gateway_reporting = record { end_of = λ report. report.end; text_of = gateway_texts.report_text }
 
-module _ {V L F C W O P K N T : Type 0} (told : Tells V L F C W O P K N T) where
+module _ {V R G : Type 0} (told : Tells V R G) where
   -- `relay` with so many turns at most, and with these workers, where some are given
   abbrev pub relay_service : ℕ → Option ℕ → Service V RelayConfig ServeReport
   relay_service turns workers = record {
     kind = relay_file;
     opening_by = λ config. relay_openings.opening_by config (plan_by config turns workers);
-    Runs = λ content before after report. relays.Runs told content turns workers before after report;
+    Runs = λ content before after report. relays.Runs told.live told.relay content turns workers before after report;
     reporting = relay_reporting;
   }
 
@@ -46,22 +46,22 @@ module _ {V L F C W O P K N T : Type 0} (told : Tells V L F C W O P K N T) where
   gateway_service turns = record {
     kind = gateway_file;
     opening_by = gateway_openings.opening_by;
-    Runs = λ content before after report. gateways.Runs told content turns before after report;
+    Runs = λ content before after report. gateways.Runs told.live told.gateway content turns before after report;
     reporting = gateway_reporting;
   }
 
-module _ {G V L F C W O P K N T : Type 0} (kept : FilesTell G) (told : Tells V L F C W O P K N T) (file : List ℕ) (turns : ℕ) where
+module _ {F V R G : Type 0} (kept : FilesTell F) (told : Tells V R G) (file : List ℕ) (turns : ℕ) where
   -- What `relay` does with its arguments, as its status and its line show.
-  abbrev pub Relays : Option ℕ → G → G → V → V → {A : Type 0} → (A → Option (List ℕ)) → A → A → ℕ → List ℕ → Type 0
+  abbrev pub Relays : Option ℕ → F → F → V → V → {A : Type 0} → (A → Option (List ℕ)) → A → A → ℕ → List ℕ → Type 0
   Relays workers files files' live live' written out out' status line =
       Serves kept told.live (relay_service told turns workers) file files files' live live' written out out' status line
 
   -- What `gateway` does with its arguments, as its status and its line show.
-  abbrev pub Gateways : G → G → V → V → {A : Type 0} → (A → Option (List ℕ)) → A → A → ℕ → List ℕ → Type 0
+  abbrev pub Gateways : F → F → V → V → {A : Type 0} → (A → Option (List ℕ)) → A → A → ℕ → List ℕ → Type 0
   Gateways files files' live live' written out out' status line =
       Serves kept told.live (gateway_service told turns) file files files' live live' written out out' status line
 
-module _ {G V L F C W O P K N T : Type 0} (kept : FilesTell G) (told : Tells V L F C W O P K N T) (files files' : G) (live live' : V) where
+module _ {F V R G : Type 0} (kept : FilesTell F) (told : Tells V R G) (files files' : F) (live live' : V) where
   -- What a command does with files and devices, as its status and its line show: `relay` and `gateway` serve, and
   -- no other touches them.
   abbrev pub ServesFor : Command → {A : Type 0} → (A → Option (List ℕ)) → A → A → ℕ → List ℕ → Type 0

@@ -71,10 +71,10 @@ pub record Service (V S R : Type 0) : Type 1 where
   pub Runs : Option (List ℕ) → V → V → R → Type 0
   pub reporting : Reporting R
 
-module _ {G V L F C W O P K N T S R : Type 0} (kept : FilesTell G) (told : LiveTells V L F C W O P K N T) (service : Service V S R) (file : List ℕ) (files files' : G) (live live' : V) where
+module _ {F V R G S T : Type 0} (kept : FilesTell F) (told : LiveTells V R G) (service : Service V S T) (file : List ℕ) (files files' : F) (live live' : V) where
   -- What is known of the answer of a run by the settings of this file: the run behind a report, or why there was
   -- none, and what was asked of files and devices.
-  pub record ComesTo (answer : Result R ServingFault) : Type 0 where
+  pub record ComesTo (answer : Result T ServingFault) : Type 0 where
     pub ran : IfOk answer (λ report. ∥ service.Runs (kept.contents files file) live live' report ∥₁)
     -- of the file
     pub unread : IsErrOf answer faults.NotRead → Rose (kept.faults files) (kept.faults files')
@@ -95,7 +95,7 @@ module _ {G V L F C W O P K N T S R : Type 0} (kept : FilesTell G) (told : LiveT
   -- ran out for the arguments; or they show this answer.
   pub data Serves {A : Type 0} (written : A → Option (List ℕ)) (out out' : A) (status : ℕ) (line : List ℕ) : Type 0 where
     untouched : status ≡ 7 → files' ≡ files → live' ≡ live → out' ≡ out → Serves written out out' status line
-    answered : (answer : Result R ServingFault) → ComesTo answer → Shows service.reporting answer written out out' status line → Serves written out out' status line
+    answered : (answer : Result T ServingFault) → ComesTo answer → Shows service.reporting answer written out out' status line → Serves written out out' status line
 
 -- What the command writes to standard error beside that.
 pub record ServesAndTells {E : Type 0} (Shown : List ℕ → Type 0) (told : E → Option (List ℕ)) (failures : E → ℕ) (err err' : E) : Type 0 where

@@ -42,7 +42,7 @@ pub fn serve_gateway_file<F: Files, O: Sink, V: Live>(
     requires turns { IsTurns turns }
     ensures answered { (answer : Result AnswerReport AnswerFault)
         × ComesTo F.Files V.Live (gateway_service
-        (tells V.Live V.L.Link V.F.Feed V.C.Clock V.W.Words V.O.OutLink V.P.starts V.P.faults V.K.Link V.N.Copies) turns)
+        (tells V.Live V.Relay.seen V.Gateway.seen) turns)
         file.now files.old files.new live.old live.new answer
         × Shows gateway_reporting answer O.written out.old out.new (status_of result) (line_of result) }
     ensures no_usage { IsErrOf result Ending.Usage → ⊥ }

@@ -47,7 +47,7 @@ pub fn serve_relay_file<F: Files, O: Sink, V: Live>(
     requires workers { AreWorkers workers }
     ensures answered { (answer : Result AnswerReport AnswerFault)
         × ComesTo F.Files V.Live (relay_service
-        (tells V.Live V.L.Link V.F.Feed V.C.Clock V.W.Words V.O.OutLink V.P.starts V.P.faults V.K.Link V.N.Copies) turns workers)
+        (tells V.Live V.Relay.seen V.Gateway.seen) turns workers)
         file.now files.old files.new live.old live.new answer
         × Shows relay_reporting answer O.written out.old out.new (status_of result) (line_of result) }
     ensures no_usage { IsErrOf result Ending.Usage → ⊥ }

@@ -73,7 +73,7 @@ fn run_command<S: Source, F: Files, O: Sink, V: Live>(
 ) -> Result<(), Ending>
     requires { IsWithinLimits command }
     ensures no_usage { IsErrOf result Ending.Usage → ⊥ }
-    ensures serves { ServesFor F.Files (tells V.Live V.L.Link V.F.Feed V.C.Clock V.W.Words V.O.OutLink V.P.starts V.P.faults V.K.Link V.N.Copies)
+    ensures serves { ServesFor F.Files (tells V.Live V.Relay.seen V.Gateway.seen)
         files.old files.new live.old live.new command.entry O.written out.old out.new
         (status_of result) (line_of result) }
     ensures ends { EndsFor (work_of command.entry) S.left S.faults O.written O.faults
@@ -114,7 +114,7 @@ fn run<S: Source, F: Files, O: Sink, V: Live>(
         ⊎ ((command : CommandValue) × IsCommandLine command (map string_bytes words.now)) }
 
     ensures serves { (command : CommandValue) → IsCommandLine command (map string_bytes words.now)
-        → ServesFor F.Files (tells V.Live V.L.Link V.F.Feed V.C.Clock V.W.Words V.O.OutLink V.P.starts V.P.faults V.K.Link V.N.Copies)
+        → ServesFor F.Files (tells V.Live V.Relay.seen V.Gateway.seen)
         files.old files.new live.old live.new command O.written out.old out.new
         (status_of result) (line_of result) }
     ensures of_command { (command : CommandValue) → IsCommandLine command (map string_bytes words.now)
@@ -176,12 +176,12 @@ pub fn amt<S: Source, F: Files, O: Sink, E: Sink, V: Live>(
         input.old input.new err.old err.new result }
     ensures relays { (file : List ℕ) (turns : ℕ) (workers : Option ℕ)
         → IsCommandLine (CommandValue.Relay file turns workers) (map string_bytes words.now)
-        → ServesAndTells (Relays F.Files (tells V.Live V.L.Link V.F.Feed V.C.Clock V.W.Words V.O.OutLink V.P.starts V.P.faults V.K.Link V.N.Copies)
+        → ServesAndTells (Relays F.Files (tells V.Live V.Relay.seen V.Gateway.seen)
         file turns workers files.old files.new live.old live.new O.written out.old out.new result)
         E.written E.faults err.old err.new }
     ensures gateways { (file : List ℕ) (turns : ℕ)
         → IsCommandLine (CommandValue.Gateway file turns) (map string_bytes words.now)
-        → ServesAndTells (Gateways F.Files (tells V.Live V.L.Link V.F.Feed V.C.Clock V.W.Words V.O.OutLink V.P.starts V.P.faults V.K.Link V.N.Copies)
+        → ServesAndTells (Gateways F.Files (tells V.Live V.Relay.seen V.Gateway.seen)
         file turns files.old files.new live.old live.new O.written out.old out.new result)
         E.written E.faults err.old err.new }
     ensures unused { ¬ IsRelayLine (map string_bytes words.now) → ¬ IsGatewayLine (map string_bytes words.now)
@@ -213,12 +213,12 @@ pub fn amt_exit<S: Source, F: Files, O: Sink, E: Sink, V: Live>(
         input.old input.new err.old err.new (status_in result) }
     ensures relays { (file : List ℕ) (turns : ℕ) (workers : Option ℕ)
         → IsCommandLine (CommandValue.Relay file turns workers) (map string_bytes words.now)
-        → ServesAndTells (Relays F.Files (tells V.Live V.L.Link V.F.Feed V.C.Clock V.W.Words V.O.OutLink V.P.starts V.P.faults V.K.Link V.N.Copies)
+        → ServesAndTells (Relays F.Files (tells V.Live V.Relay.seen V.Gateway.seen)
         file turns workers files.old files.new live.old live.new O.written out.old out.new
         (status_in result)) E.written E.faults err.old err.new }
     ensures gateways { (file : List ℕ) (turns : ℕ)
         → IsCommandLine (CommandValue.Gateway file turns) (map string_bytes words.now)
-        → ServesAndTells (Gateways F.Files (tells V.Live V.L.Link V.F.Feed V.C.Clock V.W.Words V.O.OutLink V.P.starts V.P.faults V.K.Link V.N.Copies)
+        → ServesAndTells (Gateways F.Files (tells V.Live V.Relay.seen V.Gateway.seen)
         file turns files.old files.new live.old live.new O.written out.old out.new
         (status_in result)) E.written E.faults err.old err.new }
     ensures unused { ¬ IsRelayLine (map string_bytes words.now) → ¬ IsGatewayLine (map string_bytes words.now)

@@ -1,4 +1,4 @@
-//! A relay's control socket, over the loopback, and the numbers of its copies. It knows public calls alone.
+//! Control sockets, over the loopback, and the numbers of a relay's copies. It knows public calls alone.
 
 use crate::loopback::{ANY, FarEnd, WAIT_MS, buffer};
 use amt_ports::{Got, Link, MemOut, OutLink, UdpControl, UdpFeed, UdpLink};
@@ -28,8 +28,8 @@ struct Ends<'a> {
     copies: Peer,
 }
 
-// Whether a line that the far end sends there comes from it, and is answered from there.
-fn answers<K: Link>(alloc: Global, link: &mut K, at: &Peer, far: &FarEnd) -> bool {
+/// Whether a line that the far end sends there comes from it, and is answered from there.
+pub fn answers<K: Link>(alloc: Global, link: &mut K, at: &Peer, far: &FarEnd) -> bool {
     let Ok(mut buffer) = buffer(alloc, 65_536) else {
         return false;
     };
@@ -80,7 +80,7 @@ fn may_be_asked<K: Link, N: Copies, O: OutLink + Drop>(
 }
 
 // Whether a relay is opened with such a socket; it is given back.
-fn is_opened_at<V: Live>(alloc: Global, live: &mut V, slots: u32, ends: &Ends) -> bool {
+fn is_opened_at(alloc: Global, live: &mut HostLive<HostRuntime>, slots: u32, ends: &Ends) -> bool {
     let Ok(mut devices) = live.open_relay(&ANY, &ANY, &Some(ends.at), slots) else {
         return false;
     };

@@ -1,5 +1,6 @@
 //! Opening the devices of the machine and giving them back, over the loopback. It knows public calls alone.
 
+use crate::control::answers;
 use crate::loopback::{ANY, FarEnd, WAIT_MS, buffer};
 use amt_ports::{Feed, FeedGot, Link, OutLink, UdpFeed, UdpLink};
 use amt_values::Peer;
@@ -45,7 +46,7 @@ fn all_send_from<O: OutLink + Drop>(outs: Outs<O>, slots: u32, at: &Peer, far: &
     sending == slots
 }
 
-// Where the link and the feed are asked for.
+// Where the link and the feed, or a gateway's control socket, are asked for.
 #[derive(Clone, Copy)]
 struct Places {
     listen: Peer,
@@ -63,9 +64,9 @@ fn free_places(rt: &HostRuntime) -> io::Result<Places> {
 }
 
 // Whether a relay's link and feed are where it was asked, and its links out send from there.
-fn is_relay_at<V: Live<L = UdpLink, F = UdpFeed>>(
+fn is_relay_at(
     alloc: Global,
-    live: &mut V,
+    live: &mut HostLive<HostRuntime>,
     at: &Places,
     slots: u32,
     far: &FarEnd,
@@ -82,10 +83,10 @@ fn is_relay_at<V: Live<L = UdpLink, F = UdpFeed>>(
     link && feed && outs && unasked
 }
 
-// The same of a gateway's.
-fn is_gateway_at<V: Live<L = UdpLink, F = UdpFeed>>(
+// Whether a gateway's link and control socket are where it was asked, and its link out sends from there.
+fn is_gateway_at(
     alloc: Global,
-    live: &mut V,
+    live: &mut HostLive<HostRuntime>,
     at: &Places,
     far: &FarEnd,
 ) -> bool {
@@ -93,16 +94,16 @@ fn is_gateway_at<V: Live<L = UdpLink, F = UdpFeed>>(
         return false;
     };
     let link = link_is_at(&mut devices.link, &at.listen, far);
-    let control = feed_is_at(alloc, &mut devices.control, &at.feed, far);
+    let control = answers(alloc, &mut devices.control, &at.feed, far);
     let out = sends_from(&mut devices.out, &at.listen, far);
     live.return_gateway(devices);
     link && control && out
 }
 
 // What was given back is closed, so each can have the same places after the other.
-fn all_are_at<V: Live<L = UdpLink, F = UdpFeed>>(
+fn all_are_at(
     alloc: Global,
-    live: &mut V,
+    live: &mut HostLive<HostRuntime>,
     at: &Places,
     far: &FarEnd,
 ) -> bool {

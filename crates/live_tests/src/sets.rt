@@ -54,7 +54,7 @@ impl<R: Wait> Spawner<Worker<MemOut>> for AtJoin<R> {
     }
 }
 
-type MemSet<R> = DeviceSet<
+type OfRelay<R> = RelayDevices<
     MemLink,
     MemFeed,
     MemClock,
@@ -65,16 +65,11 @@ type MemSet<R> = DeviceSet<
     SharedCopies,
 >;
 
-type MemSets<R> = MemLive<
-    MemLink,
-    MemFeed,
-    MemClock,
-    MemWords,
-    MemOut,
-    AtJoin<R>,
-    MemLink,
-    SharedCopies,
->;
+type OfGateway = GatewayDevices<MemLink, MemLink, MemOut, MemClock, MemWords>;
+
+type MemSet<R> = DeviceSet<OfRelay<R>, OfGateway>;
+
+type MemSets<R> = MemLive<OfRelay<R>, OfGateway>;
 
 fn outs_of(alloc: Global, count: usize) -> Result<Outs<MemOut>, AllocError> {
     let mut outs = Vec::with_capacity(alloc, count)?;
@@ -112,7 +107,7 @@ fn relay_set<R: Drop>(
 fn gateway_set<R>(alloc: Global) -> MemSet<R> {
     DeviceSet::Gateway(GatewayDevices {
         link: MemLink::new(alloc, VecDeque::new(alloc)),
-        control: MemFeed::new(alloc, VecDeque::new(alloc)),
+        control: MemLink::new(alloc, VecDeque::new(alloc)),
         out: MemOut::new(alloc),
         clock: MemClock::new(Vec::new(alloc)),
         words: MemWords::new(alloc, Vec::new(alloc)),
@@ -143,7 +138,11 @@ enum Kind {
 type Answer = Result<Kind, OpenFault>;
 
 // What an opening for a relay hands out, which is given back.
-fn open_relay<V: Live>(live: &mut V, control: &Option<Peer>, slots: u32) -> Answer {
+fn open_relay<R: Wait + Drop>(
+    live: &mut MemSets<R>,
+    control: &Option<Peer>,
+    slots: u32,
+) -> Answer {
     match live.open_relay(&LISTEN, &FEED, control, slots) {
         Ok(devices) => {
             let kind = match &devices.control {
@@ -168,7 +167,7 @@ fn open_gateway<V: Live>(live: &mut V) -> Answer {
     }
 }
 
-fn open<V: Live>(live: &mut V, kind: &Kind) -> Answer {
+fn open<R: Wait + Drop>(live: &mut MemSets<R>, kind: &Kind) -> Answer {
     match kind {
         Kind::Relay(slots) => open_relay(live, &None, *slots),
         Kind::Asked(slots) => open_relay(live, &Some(CONTROL), *slots),
@@ -226,7 +225,11 @@ const OPENINGS: [Row; 5] = [
     ),
 ];
 
-fn answers<V: Live>(live: &mut V, kinds: &[Kind; 4], wanted: &[Answer; 4]) -> bool {
+fn answers<R: Wait + Drop>(
+    live: &mut MemSets<R>,
+    kinds: &[Kind; 4],
+    wanted: &[Answer; 4],
+) -> bool {
     for (kind, want) in kinds.iter().zip(wanted) {
         if open(live, kind) != *want {
             return false;

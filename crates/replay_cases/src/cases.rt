@@ -110,8 +110,8 @@ impl Case {
             "%" => self.given.take_script(rest),
             "%\\" => self.given.take_escaped_script(alloc, rest),
             "&" => append_line(&mut self.wanted.openings, rest),
-            _ if is_of_out(mark) && !rest.is_empty() => append_line(&mut self.wanted.sends, line),
-            _ => Err(LineFault::Malformed),
+            "=\\" => self.wanted.take_escaped_sends(alloc, rest),
+            _ => self.wanted.take_send(line),
         }
     }
 
@@ -174,6 +174,25 @@ impl Given {
 }
 
 impl Wanted {
+    // The mark says which device's it is.
+    fn take_send(&mut self, line: &str) -> Result<(), LineFault> {
+        let (mark, rest) = line.split_once(' ').unwrap_or((line, ""));
+        if !is_of_out(mark) || rest.is_empty() {
+            return Err(LineFault::Malformed);
+        }
+        append_line(&mut self.sends, line)
+    }
+
+    fn take_escaped_sends(&mut self, alloc: Global, escaped: &str) -> Result<(), LineFault> {
+        let mut lines = Bytes::new(alloc);
+        append_escaped(&mut lines, escaped)?;
+        let lines = String::from_utf8_lossy(alloc, lines.as_slice())?;
+        for line in lines.lines() {
+            self.take_send(line)?;
+        }
+        Ok(())
+    }
+
     fn take_compared_text(&mut self, alloc: Global, text: &str) -> Result<(), LineFault> {
         let text = String::from_str(alloc, text)?;
         self.compared_texts
@@ -187,8 +206,8 @@ impl Wanted {
     }
 }
 
-// `=` for the link, `=?` for a relay's control socket, and `=N` for the Nth link out: a number that isn't written so
-// would be that of none.
+// `=` for the link, `=?` for the control socket, and `=N` for the Nth link out: a number that isn't written so would be
+// that of none.
 fn is_of_out(mark: &str) -> bool {
     match mark.strip_prefix('=') {
         Some("" | "?") => true,

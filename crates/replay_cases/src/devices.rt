@@ -1,6 +1,7 @@
 //! The devices in memory that a case scripts.
 
 mod arrivals;
+mod relays;
 mod starters;
 
 use crate::failing::{Call, FailingCall, numbers_of};
@@ -9,6 +10,7 @@ use amt_ports::{ListedSpawner, MemClock, MemFeed, MemLink, MemOut, MemWords, Out
 use amt_values::{Ip, Moment, Peer};
 use arrivals::{Receiver, feed_answers, link_answers};
 use relay_serving::{Control, CopyCount, MemCopies};
+use relays::OfRelay;
 use replication_workers::Outs;
 use serving_commands::{DeviceSet, GatewayDevices, MemLive, RelayDevices};
 use starters::Starter;
@@ -19,41 +21,12 @@ use std::thread::Threads;
 /// Starts a relay's workers in threads.
 pub type Spawner<'a, R> = ListedSpawner<&'a R, Starter<'a, R>>;
 
+type OfGateway = GatewayDevices<MemLink, MemLink, MemOut, MemClock, MemWords>;
+
+pub type Set<'a, R> = DeviceSet<OfRelay<'a, R>, OfGateway>;
+
 /// Where the case's set of devices is opened.
-pub type Sets<'a, R> = MemLive<
-    MemLink,
-    MemFeed,
-    MemClock,
-    MemWords,
-    MemOut,
-    Spawner<'a, R>,
-    MemLink,
-    MemCopies,
->;
-
-pub type Set<'a, R> = DeviceSet<
-    MemLink,
-    MemFeed,
-    MemClock,
-    MemWords,
-    MemOut,
-    Spawner<'a, R>,
-    MemLink,
-    MemCopies,
->;
-
-type OfRelay<'a, R> = RelayDevices<
-    MemLink,
-    MemFeed,
-    MemClock,
-    MemWords,
-    MemOut,
-    Spawner<'a, R>,
-    MemLink,
-    MemCopies,
->;
-
-type OfGateway = GatewayDevices<MemLink, MemFeed, MemOut, MemClock, MemWords>;
+pub type Sets<'a, R> = MemLive<OfRelay<'a, R>, OfGateway>;
 
 /// What the devices of a case do.
 #[derive(Clone, Copy)]
@@ -113,11 +86,11 @@ fn link_of(alloc: Global, script: Script<'_>) -> Result<MemLink, AllocError> {
     Ok(MemLink::failing(alloc, answers, receivings, sends))
 }
 
-// Whether the line wants a control socket of a relay.
+// Whether the line wants a control socket, which a relay may lack.
 fn asks(line: &str) -> bool {
     matches!(
         read_event(line),
-        Some(Event::Control | Event::Ask(_, _) | Event::AskingCloses)
+        Some(Event::Control | Event::Ask(_, _) | Event::ControlCloses)
     )
 }
 
@@ -131,18 +104,23 @@ fn copies_of(alloc: Global, script: Script<'_>) -> Result<MemCopies, AllocError>
     Ok(MemCopies::new(counts))
 }
 
-fn control_of(
+fn control_of(alloc: Global, script: Script<'_>) -> Result<MemLink, AllocError> {
+    let answers = link_answers(alloc, Receiver::Control, script.lines)?;
+    let receivings = script.failing(alloc, Call::Control)?;
+    let sends = script.failing(alloc, Call::Answer)?;
+    Ok(MemLink::failing(alloc, answers, receivings, sends))
+}
+
+// A relay has one only where the script wants it.
+fn control_of_relay(
     alloc: Global,
     script: Script<'_>,
 ) -> Result<Option<Control<MemLink, MemCopies>>, AllocError> {
     if !script.lines.lines().any(asks) {
         return Ok(None);
     }
-    let answers = link_answers(alloc, Receiver::Control, script.lines)?;
-    let receivings = script.failing(alloc, Call::Ask)?;
-    let sends = script.failing(alloc, Call::Answer)?;
     Ok(Some(Control {
-        link: MemLink::failing(alloc, answers, receivings, sends),
+        link: control_of(alloc, script)?,
         copies: copies_of(alloc, script)?,
     }))
 }
@@ -199,11 +177,10 @@ fn spawner_of<'a, R: Threads>(
     Ok(ListedSpawner::new(rt, Starter { rt }, refused))
 }
 
-// What comes in, and what tells moments and words.
+// What both ends have: a link, and what tells moments and words.
 #[derive(Drop)]
 struct Givers {
     link: MemLink,
-    feed: MemFeed,
     clock: MemClock,
     words: MemWords,
 }
@@ -211,14 +188,8 @@ struct Givers {
 fn givers_of(alloc: Global, script: Script<'_>) -> Result<Givers, AllocError> {
     let clock = MemClock::new(script.moments(alloc)?);
     let words = words_of(alloc, script)?;
-    let feed = feed_of(alloc, script)?;
     let link = link_of(alloc, script)?;
-    Ok(Givers {
-        link,
-        feed,
-        clock,
-        words,
-    })
+    Ok(Givers { link, clock, words })
 }
 
 fn relay_of<'a, R: Threads + Wait + 'static>(
@@ -228,25 +199,29 @@ fn relay_of<'a, R: Threads + Wait + 'static>(
 ) -> Result<OfRelay<'a, R>, AllocError> {
     let spawner = spawner_of(rt, alloc, script)?;
     let outs = outs_of(alloc, script)?;
-    let control = control_of(alloc, script)?;
+    let control = control_of_relay(alloc, script)?;
+    let feed = feed_of(alloc, script)?;
     let givers = givers_of(alloc, script)?;
-    Ok(RelayDevices {
-        link: givers.link,
-        feed: givers.feed,
-        clock: givers.clock,
-        words: givers.words,
-        outs,
-        spawner,
-        control,
+    Ok(OfRelay {
+        devices: RelayDevices {
+            link: givers.link,
+            feed,
+            clock: givers.clock,
+            words: givers.words,
+            outs,
+            spawner,
+            control,
+        },
     })
 }
 
 fn gateway_of(alloc: Global, script: Script<'_>) -> Result<OfGateway, AllocError> {
     let out = out_of(alloc, script, 1)?;
+    let control = control_of(alloc, script)?;
     let givers = givers_of(alloc, script)?;
     Ok(GatewayDevices {
         link: givers.link,
-        control: givers.feed,
+        control,
         out,
         clock: givers.clock,
         words: givers.words,

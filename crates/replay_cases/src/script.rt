@@ -1,6 +1,12 @@
 //! The lines that script the devices of a case.
 
-use amt_values::{Moment, Peer, parse_peer};
+use amt_values::{Ip, Moment, Peer, parse_peer};
+
+// Who asks at a control socket where a line doesn't say: 127.0.0.1:40000.
+const CALLER: Peer = Peer {
+    ip: Ip::V4(0x7f00_0001),
+    port: 40_000,
+};
 
 /// What a line of a script says.
 #[derive(Clone, Copy)]
@@ -17,17 +23,15 @@ pub enum Event<'a> {
     Sweep(Peer, u8, u16),
     /// The feed gets a packet, in hexadecimal digits.
     Packet(&'a str),
-    /// The control feed gets a line, with escapes.
-    Line(&'a str),
     /// A relay has a control socket, whether or not a line comes to it.
     Control,
-    /// A relay's control socket gets a line from a peer, with escapes.
+    /// The control socket gets a line from a peer, with escapes.
     Ask(Peer, &'a str),
     /// What a relay's copies came to, when that is asked for the next time.
     Copies(u64, u64),
     LinkCloses,
     FeedCloses,
-    AskingCloses,
+    ControlCloses,
     /// A relay's set has so many links out.
     Outs(u8),
 }
@@ -89,8 +93,8 @@ fn read_copies<'a>(rest: &'a str) -> Option<Event<'a>> {
 fn read_closing<'a>(device: &str) -> Option<Event<'a>> {
     match device {
         "link" => Some(Event::LinkCloses),
-        "feed" | "control" => Some(Event::FeedCloses),
-        "asking" => Some(Event::AskingCloses),
+        "feed" => Some(Event::FeedCloses),
+        "control" => Some(Event::ControlCloses),
         _ => None,
     }
 }
@@ -105,7 +109,7 @@ pub fn read_event<'a>(line: &'a str) -> Option<Event<'a>> {
         "dg" => read_datagram(rest),
         "sweep" => read_sweep(rest),
         "mc" if are_octets(rest) => Some(Event::Packet(rest)),
-        "line" if rest.len() <= MOST_DIGITS => Some(Event::Line(rest)),
+        "line" if rest.len() <= MOST_DIGITS => Some(Event::Ask(CALLER, rest)),
         "control" if rest.is_empty() => Some(Event::Control),
         "ask" => read_asking(rest),
         "copies" => read_copies(rest),

@@ -67,7 +67,8 @@ fn append_answers(alloc: Global, text: &mut String, tried: &[Tried]) -> Result<(
 
 fn append_set<R>(alloc: Global, text: &mut String, set: &Set<'_, R>) -> Result<(), AllocError> {
     match set {
-        DeviceSet::Relay(devices) => {
+        DeviceSet::Relay(set) => {
+            let devices = &set.devices;
             append_sends(alloc, text, "=", devices.link.tried())?;
             append_outs(alloc, text, devices.outs.as_slice())?;
             match &devices.control {
@@ -77,13 +78,14 @@ fn append_set<R>(alloc: Global, text: &mut String, set: &Set<'_, R>) -> Result<(
         }
         DeviceSet::Gateway(devices) => {
             append_sends(alloc, text, "=", devices.link.tried())?;
-            append_out(alloc, text, &devices.out)
+            append_out(alloc, text, &devices.out)?;
+            append_answers(alloc, text, devices.control.tried())
         }
     }
 }
 
-/// What each device that came back tried to send: the link first, then the links out in order, and then what a
-/// relay's control socket answered.
+/// What each device that came back tried to send: the link first, then the links out in order, and then what the
+/// control socket answered.
 pub fn sends_text<R>(alloc: Global, live: &Sets<'_, R>) -> Result<String, AllocError> {
     let mut text = String::new(alloc);
     for set in live.returned() {
@@ -124,13 +126,13 @@ fn append_numbers(text: &mut String, outs: &Outs<MemOut>) -> Result<(), AllocErr
 
 fn append_return<R: Threads>(text: &mut String, set: &Set<'_, R>) -> Result<(), AllocError> {
     match set {
-        DeviceSet::Relay(devices) => {
+        DeviceSet::Relay(set) => {
             write!(
                 text,
                 "back relay, {} started, outs",
-                devices.spawner.starts()
+                set.devices.spawner.starts()
             )?;
-            append_numbers(text, &devices.outs)
+            append_numbers(text, &set.devices.outs)
         }
         DeviceSet::Gateway(_) => text.push_str("back gateway\n"),
     }

@@ -12,8 +12,8 @@ same_room : (before between after : Option ℕ) → between ≡ more_room before
 same_room None between after more less = less ∙ ap less_room more
 same_room (Some sets) between after more less = less ∙ ap less_room more ∙ ap Some (omega arith)
 
-module _ {V L F C W O P K N T : Type 0} (live : LiveTells V L F C W O P K N T) where
-  pub lent : (opening : Opening) (opened left : DeviceSet L F C W O P K N) (before between after : V)
+module _ {V R G : Type 0} (live : LiveTells V R G) where
+  pub lent : (opening : Opening) (opened left : DeviceSet R G) (before between after : V)
       → Appends (live.asked before) (live.asked between) opening → TakesFirst (live.sets before) (live.sets between) opened
       → (IsSome (live.asked before) → IsSome (live.asked between)) → live.returned between ≡ live.returned before → live.room between ≡ more_room (live.room before)
       → Appends (live.returned between) (live.returned after) left → (IsSome (live.returned between) → IsSome (live.returned after))
@@ -21,9 +21,9 @@ module _ {V L F C W O P K N T : Type 0} (live : LiveTells V L F C W O P K N T) w
       → IsLent live opening opened left before after
   lent opening opened left before between after asked first tells returned more back tells_back less sets asked_after = record {
     asked = subst (λ (all : Option (List Opening)). Appends (live.asked before) all opening) (sym asked_after) asked;
-    first = subst (λ (all : Option (List (DeviceSet L F C W O P K N))). TakesFirst (live.sets before) all opened) (sym sets) first;
-    returned = subst (λ (all : Option (List (DeviceSet L F C W O P K N))). Appends all (live.returned after) left) returned back;
+    first = subst (λ (all : Option (List (DeviceSet R G))). TakesFirst (live.sets before) all opened) (sym sets) first;
+    returned = subst (λ (all : Option (List (DeviceSet R G))). Appends all (live.returned after) left) returned back;
     tells_asked = λ some. subst (λ (all : Option (List Opening)). IsSome all) (sym asked_after) (tells some);
-    tells_returned = λ some. tells_back (subst (λ (all : Option (List (DeviceSet L F C W O P K N))). IsSome all) (sym returned) some);
+    tells_returned = λ some. tells_back (subst (λ (all : Option (List (DeviceSet R G))). IsSome all) (sym returned) some);
     room = same_room _ _ _ more less;
   }

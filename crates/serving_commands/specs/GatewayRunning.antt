@@ -1,18 +1,19 @@
 -- A run of a gateway on devices that are opened for it.
 use Rattle.std.specs.Prelude.{ℕ, List, Option}
 use Rattle.amt_config.specs.declared.config.GatewayConfig.{GatewayConfig}
-use Rattle.serving_commands.specs.{declared.opening.devices.{DeviceSet.TheVariants.{Gateway as GatewaySet}, GatewayDevices.{GatewayDevices}}, GatewayLives.{set_seen}, GatewayOpenings.{opening_by}, Kinds.{gateway_file}, Lives.{Tells}, Openings.{IsLent}, Reading.{IsConfigured}}
-use Rattle.gateway_serving.specs.{Serving.{Serves}, declared.served.GatewayServed.{GatewayServed}}
+use Rattle.serving_commands.specs.{declared.opening.{devices.DeviceSet.TheVariants.{Gateway as OfGateway}, live.Live.{Ghosts as LiveTells}}, GatewayOpenings.{opening_by}, Kinds.{gateway_file}, Openings.{IsLent}, Reading.{IsConfigured}}
+use Rattle.gateway_serving.specs.{Devices.{Devices}, Serving.{Serves}, declared.served.GatewayServed.{GatewayServed}}
 
-module _ {V L F C W O P K N T : Type 0} (told : Tells V L F C W O P K N T) where
+-- by what the place tells, and what is seen of a set of devices
+module _ {V R G : Type 0} (live : LiveTells V R G) (seen : G → Devices) where
   -- The gateway of this configuration ran for so many turns at most on one set of devices, which was then given back.
   pub record RunsBy (config : GatewayConfig) (turns : ℕ) (before after : V) (report : GatewayServed) : Type 0 where
     -- the set that was opened, and what the run left of it
-    pub opened : GatewayDevices L F O C W
-    pub left : GatewayDevices L F O C W
-    pub lent : IsLent told.live (opening_by config) (GatewaySet opened) (GatewaySet left) before after
+    pub opened : G
+    pub left : G
+    pub lent : IsLent live (opening_by config) (OfGateway opened) (OfGateway left) before after
     -- the run
-    pub serves : Serves config turns (set_seen told opened) (set_seen told left) report
+    pub serves : Serves config turns (seen opened) (seen left) report
 
   -- the gateway of the settings file's configuration ran for so many turns at most
   pub record Runs (content : Option (List ℕ)) (turns : ℕ) (before after : V) (report : GatewayServed) : Type 0 where

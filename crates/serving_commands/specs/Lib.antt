@@ -1,4 +1,4 @@
-pub mod GatewayLives
+pub mod DeviceSets
 pub mod GatewayOpenings
 pub mod GatewayRunning
 pub mod GatewayTexts
@@ -7,10 +7,10 @@ pub mod Lives
 pub mod MemLive
 pub mod Openings
 pub mod Reading
-pub mod RelayLives
 pub mod RelayOpenings
 pub mod RelayPlans
 pub mod RelayRunning
 pub mod RelayTexts
+pub mod Seen
 pub mod Sets
 pub mod Texts

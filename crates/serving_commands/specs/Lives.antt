@@ -1,35 +1,12 @@
--- What a place tells where devices are opened, and what each of its devices does.
-use Rattle.std.specs.Prelude.{ℕ, Option}
-use Rattle.serving_commands.specs.declared.opening.live.Live.{Ghosts as LiveTells}
-use Rattle.relay_serving.specs.declared.control.Copies.{Ghosts as CopiesTell}
-use Rattle.amt_ports.specs.declared.{clock.Clock.{Ghosts as ClockTells}, feed.Feed.{Ghosts as FeedTells}, link.Link.{Ghosts as LinkTells}, out_link.OutLink.{Ghosts as OutTells}, words.Words.{Ghosts as WordsTells}}
+-- What a place tells where devices are opened, and what is seen of its sets of devices.
+use Rattle.gateway_serving.specs.Devices.{Devices}
+use Rattle.serving_commands.specs.{Seen.{RelaySeen}, declared.opening.live.Live.{Ghosts as LiveTells}}
 
--- What a place tells, and what each device of its sets does. Of what starts workers, giving a T for each, that is
--- how many it started and how often it failed.
-pub record Tells (V L F C W O P K N T : Type 0) : Type 1 where
-  pub live : LiveTells V L F C W O P K N T
-  pub link : LinkTells L
-  pub feed : FeedTells F
-  pub clock : ClockTells C
-  pub words : WordsTells W
-  pub out : OutTells O
-  pub starts : P → Option ℕ
-  pub start_faults : P → ℕ
-  pub control : LinkTells K
-  pub copies : CopiesTell N
+-- Of sets R for relays and sets G for gateways.
+pub record Tells (V R G : Type 0) : Type 1 where
+  pub live : LiveTells V R G
+  pub relay : R → RelaySeen
+  pub gateway : G → Devices
 
-module _ {V L F C W O P K N T : Type 0} where
-  abbrev pub tells : LiveTells V L F C W O P K N T → LinkTells L → FeedTells F → ClockTells C → WordsTells W → OutTells O
-      → (P → Option ℕ) → (P → ℕ) → LinkTells K → CopiesTell N → Tells V L F C W O P K N T
-  tells live link feed clock words out starts start_faults control copies = record {
-    live = live;
-    link = link;
-    feed = feed;
-    clock = clock;
-    words = words;
-    out = out;
-    starts = starts;
-    start_faults = start_faults;
-    control = control;
-    copies = copies;
-  }
+abbrev pub tells : {V R G : Type 0} → LiveTells V R G → (R → RelaySeen) → (G → Devices) → Tells V R G
+tells live relay gateway = record { live = live; relay = relay; gateway = gateway }

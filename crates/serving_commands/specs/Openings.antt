@@ -3,9 +3,9 @@ use Rattle.std.specs.Prelude.{◌≡◌, ℕ, List, Option, IsSome}
 use Rattle.serving_commands.specs.{Sets.{TakesFirst}, declared.{opening.{asked.Opening.{Opening}, devices.DeviceSet.{DeviceSet}, live.Live.{Ghosts as LiveTells}}, fault.ServingFault.{ServingFault, TheVariants.{Memory, NotOpened, NotRead, Settings, TooLong}}}, Kinds.{SettingsKind}, Reading.{IsConfigured}}
 use Rattle.amt_ports.specs.Told.{Appends}
 
-module _ {V L F C W O P K N T : Type 0} (live : LiveTells V L F C W O P K N T) where
+module _ {V R G : Type 0} (live : LiveTells V R G) where
   -- Devices were asked for once: this set, which was the first to come. It was given back as it is left.
-  pub record IsLent (opening : Opening) (opened left : DeviceSet L F C W O P K N) (before after : V) : Type 0 where
+  pub record IsLent (opening : Opening) (opened left : DeviceSet R G) (before after : V) : Type 0 where
     pub asked : Appends (live.asked before) (live.asked after) opening
     pub first : TakesFirst (live.sets before) (live.sets after) opened
     pub returned : Appends (live.returned before) (live.returned after) left

@@ -13,6 +13,6 @@ abbrev pub opening_by : RelayConfig → ServePlan → Opening
 opening_by config plan = AskedRelay config.listen config.feed config.control (slots_of plan)
 
 -- what the settings and the command ask for was refused
-abbrev pub IsRefusedBy : {V L F C W O P K N T : Type 0} → LiveTells V L F C W O P K N T → Option (List ℕ) → ℕ → Option ℕ → V → V → Type 0
+abbrev pub IsRefusedBy : {V R G : Type 0} → LiveTells V R G → Option (List ℕ) → ℕ → Option ℕ → V → V → Type 0
 IsRefusedBy live content turns workers before after =
     IsRefusedFor live relay_file (λ config. opening_by config (plan_by config turns workers)) content before after

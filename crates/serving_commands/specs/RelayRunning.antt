@@ -1,23 +1,24 @@
 -- A run of a relay on devices that are opened for it.
 use Rattle.std.specs.Prelude.{◌≡◌, ℕ, List, is_some, length, Option}
 use Rattle.amt_config.specs.{Relay.{settings_of}, declared.config.RelayConfig.{RelayConfig}}
-use Rattle.serving_commands.specs.{declared.opening.devices.{DeviceSet.TheVariants.{Relay as RelaySet}, RelayDevices.{RelayDevices}}, RelayLives.{control_seen, links_out_seen, set_seen}, RelayOpenings.{opening_by, slots_of}, RelayPlans.{plan_by}, Kinds.{relay_file}, Lives.{Tells}, Openings.{IsLent}, Reading.{IsConfigured}}
+use Rattle.serving_commands.specs.{declared.opening.{devices.DeviceSet.TheVariants.{Relay as OfRelay}, live.Live.{Ghosts as LiveTells}}, RelayOpenings.{opening_by, slots_of}, RelayPlans.{plan_by}, Kinds.{relay_file}, Openings.{IsLent}, Reading.{IsConfigured}, Seen.{RelaySeen}}
 use Rattle.published_table.specs.declared.view.View.{View}
 use Rattle.relay_serving.specs.{Serving.{Serves}, declared.plan.{ServePlan.{ServePlan}, ServeReport.{ServeReport}}}
 
-module _ {V L F C W O P K N T : Type 0} (told : Tells V L F C W O P K N T) where
+-- by what the place tells, and what is seen of a set of devices
+module _ {V R G : Type 0} (live : LiveTells V R G) (seen : R → RelaySeen) where
   -- The relay of these settings ran by the plan on one set of devices, which was then given back.
   pub record RunsBy (config : RelayConfig) (plan : ServePlan) (before after : V) (report : ServeReport) : Type 0 where
     -- the set that was opened, and what the run left of it
-    pub opened : RelayDevices L F C W O P K N
-    pub left : RelayDevices L F C W O P K N
-    pub lent : IsLent told.live (opening_by config plan) (RelaySet opened) (RelaySet left) before after
-    pub outs : length opened.outs ≡ slots_of plan
-    pub control : is_some opened.control ≡ is_some config.control
+    pub opened : R
+    pub left : R
+    pub lent : IsLent live (opening_by config plan) (OfRelay opened) (OfRelay left) before after
+    pub outs : length (seen opened).outs ≡ slots_of plan
+    pub control : is_some (seen opened).control ≡ is_some config.control
     -- the run
     pub views : List View
-    pub serves : Serves (settings_of config) plan (set_seen told opened) (set_seen told left)
-        (control_seen told opened) (control_seen told left) (links_out_seen told opened) (links_out_seen told left) views report
+    pub serves : Serves (settings_of config) plan (seen opened).devices (seen left).devices
+        (seen opened).control (seen left).control (seen opened).outs (seen left).outs views report
 
   -- the relay of the settings file's settings ran as the command says
   pub record Runs (content : Option (List ℕ)) (turns : ℕ) (workers : Option ℕ) (before after : V) (report : ServeReport) : Type 0 where

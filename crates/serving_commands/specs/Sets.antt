@@ -1,6 +1,6 @@
 -- Sets of devices: those to come, and the room for those that come back.
-use Rattle.std.specs.Prelude.{◌≡◌, ◌<◌, ℕ, ◌+◌, ◌-◌, ◌==◌, ◌&&◌, Bool, true, false, is_none, is_some, List, [], ◌∷◌, length, Option, Some, None, if◌then◌else◌}
-use Rattle.serving_commands.specs.declared.opening.devices.DeviceSet.{DeviceSet, TheVariants.{Relay, Gateway}}
+use Rattle.std.specs.Prelude.{◌≡◌, ◌<◌, ℕ, ◌+◌, ◌-◌, Bool, true, false, List, [], ◌∷◌, Option, Some, None}
+use Rattle.serving_commands.specs.{Seen.{RelaySeen, is_set_for}, declared.opening.devices.DeviceSet.{DeviceSet, TheVariants.{Relay, Gateway}}}
 
 -- where the sets to come are still told, this one was the first of them, and the others stay
 abbrev pub TakesFirst : {X : Type 0} → Option (List X) → Option (List X) → X → Type 0
@@ -22,19 +22,15 @@ abbrev pub less_room : Option ℕ → Option ℕ
 less_room None = None
 less_room (Some sets) = Some (sets - 1)
 
--- there is a control socket exactly where one is asked for
-abbrev pub is_as_asked : {X : Type 0} → Bool → Option X → Bool
-is_as_asked asked control = if asked then is_some control else is_none control
-
-module _ {L F C W O P K N : Type 0} where
-  -- the first set to come is a relay's, with links out of this number, and a control socket as asked
-  abbrev pub fits_relay : ℕ → Bool → List (DeviceSet L F C W O P K N) → Bool
-  fits_relay slots asked [] = false
-  fits_relay slots asked (Relay devices ∷ later) = (length devices.outs == slots) && is_as_asked asked devices.control
-  fits_relay slots asked (Gateway devices ∷ later) = false
+module _ {R G : Type 0} where
+  -- the first set to come is a relay's, by what is seen of one, with links out of this number, and a control socket as asked
+  abbrev pub fits_relay : (R → RelaySeen) → ℕ → Bool → List (DeviceSet R G) → Bool
+  fits_relay seen slots asked [] = false
+  fits_relay seen slots asked (Relay devices ∷ later) = is_set_for slots asked (seen devices)
+  fits_relay seen slots asked (Gateway devices ∷ later) = false
 
   -- the first set to come is a gateway's
-  abbrev pub fits_gateway : List (DeviceSet L F C W O P K N) → Bool
+  abbrev pub fits_gateway : List (DeviceSet R G) → Bool
   fits_gateway [] = false
   fits_gateway (Relay devices ∷ later) = false
   fits_gateway (Gateway devices ∷ later) = true

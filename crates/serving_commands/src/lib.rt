@@ -19,8 +19,9 @@ mod settings;
 pub use fault::ServingFault;
 pub use kinds::FromSettings;
 pub use opening::{
-    CountedOut, DeviceSet, GatewayDevices, HostLive, Live, MemLive, OpenFault, Opening,
-    RelayDevices, SharedCopies, WorkerThreads,
+    CountedOut, DeviceSet, GatewayDevices, GatewayRan, GatewaySet, HostGateway, HostLive, HostOut,
+    HostRelay, Live, MemLive, OpenFault, Opening, RelayDevices, RelayRan, RelaySet, SharedCopies,
+    WorkerThreads,
 };
 pub use reading::read_settings;
 pub use report::report_head;

@@ -6,14 +6,20 @@
 mod asked;
 mod counted;
 mod devices;
+mod gateway_set;
 mod host;
+mod host_sets;
 mod live;
 mod memory;
+mod relay_set;
 mod returns;
+mod sets;
 
 pub use asked::Opening;
 pub use counted::{CountedOut, SharedCopies};
 pub use devices::{DeviceSet, GatewayDevices, RelayDevices};
-pub use host::{HostLive, WorkerThreads};
+pub use host::HostLive;
+pub use host_sets::{HostGateway, HostOut, HostRelay, WorkerThreads};
 pub use live::{Live, OpenFault};
 pub use memory::MemLive;
+pub use sets::{GatewayRan, GatewaySet, RelayRan, RelaySet};

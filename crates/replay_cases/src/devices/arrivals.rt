@@ -58,7 +58,6 @@ fn first_and_zeros(alloc: Global, first: u8, length: u16) -> Result<Bytes, Alloc
 #[derive(Clone, Copy, PartialEq, Eq)]
 pub enum Receiver {
     Link,
-    /// A relay's control socket.
     Control,
 }
 
@@ -67,7 +66,7 @@ fn heard(at: Receiver, event: &Event) -> u8 {
     match (at, event) {
         (Receiver::Link, Event::Datagram(_, _) | Event::LinkCloses) => 1,
         (Receiver::Link, Event::Sweep(_, _, _)) => 64,
-        (Receiver::Control, Event::Ask(_, _) | Event::AskingCloses) => 1,
+        (Receiver::Control, Event::Ask(_, _) | Event::ControlCloses) => 1,
         _ => 0,
     }
 }
@@ -86,7 +85,7 @@ fn link_answer(alloc: Global, event: &Event, number: u8) -> Result<LinkAnswer, A
         Event::Ask(from, line) => {
             Ok(LinkAnswer::Datagram(*from, short(line_octets(alloc, line)?)?))
         }
-        Event::LinkCloses | Event::AskingCloses => Ok(LinkAnswer::Closed),
+        Event::LinkCloses | Event::ControlCloses => Ok(LinkAnswer::Closed),
         _ => Ok(LinkAnswer::Nothing),
     }
 }
@@ -140,7 +139,6 @@ fn feed_answer(alloc: Global, event: &Event) -> Result<Option<FeedAnswer>, Alloc
 {
     match event {
         Event::Packet(digits) => { Ok(Some(FeedAnswer::Packet(short(octets_of(alloc, digits)?)?))) }
-        Event::Line(line) => Ok(Some(FeedAnswer::Packet(short(line_octets(alloc, line)?)?))),
         Event::FeedCloses => Ok(Some(FeedAnswer::Closed)),
         _ => Ok(None),
     }
@@ -170,7 +168,7 @@ fn feed(
     Ok(())
 }
 
-/// What the feed, or the control feed, answers by the script. After that it is closed.
+/// What the feed answers by the script. After that it is closed.
 pub fn feed_answers(alloc: Global, script: &str) -> Result<VecDeque<FeedAnswer>, AllocError>
     ensures { IfOk result (λ answers. All IsShortFeedAnswer answers.items) }
 {

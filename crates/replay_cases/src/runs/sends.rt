@@ -22,12 +22,13 @@ fn append_out(alloc: Global, text: &mut Bytes, lines: &[u8], number: u8) -> Resu
     append_marked(text, lines, mark.as_str())
 }
 
-/// The lines of the link, and then those of each link out.
+/// The lines of the link, then those of each link out, and then the answers of a control socket.
 pub fn in_order_of_devices(alloc: Global, lines: &[u8]) -> Result<Bytes, AllocError> {
     let mut text = Bytes::new(alloc);
     append_marked(&mut text, lines, "= ")?;
     for number in 1..=MOST_OUTS {
         append_out(alloc, &mut text, lines, number)?;
     }
+    append_marked(&mut text, lines, "=? ")?;
     Ok(text)
 }

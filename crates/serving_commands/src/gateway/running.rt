@@ -1,15 +1,15 @@
 //! A gateway is run on devices that are opened for it.
 ghost use Rattle.std.specs.Prelude.{◌≡◌, ◌⊎◌, ℕ, List, IfErr, IfOk, IsErrOf, OnErr, Some};
 ghost use Rattle.amt_ports.specs.Causes.{Rose};
-ghost use Rattle.serving_commands.specs.{GatewayOpenings.{IsRefusedBy, opening_by}, GatewayRunning.{Runs, RunsBy}, Kinds.{gateway_file}, Lives.{tells}, Openings.{ComesFirst, IsRefused}, Reading.{Decides, TellsFault}};
+ghost use Rattle.serving_commands.specs.{GatewayOpenings.{IsRefusedBy, opening_by}, GatewayRunning.{Runs, RunsBy}, Kinds.{gateway_file}, Openings.{ComesFirst, IsRefused}, Reading.{Decides, TellsFault}};
 ghost use Rattle.gateway_serving.specs.Settings.{AreTurns, IsLawfulConfig};
 
 use crate::fault::ServingFault;
-use crate::opening::{GatewayDevices, Live, OpenFault};
+use crate::opening::{GatewayRan, GatewaySet, Live, OpenFault};
 use crate::reading::read_settings;
 use amt_config::GatewayConfig;
 use amt_ports::Files;
-use gateway_serving::{GatewayServed, serve_gateway};
+use gateway_serving::GatewayServed;
 use std::alloc::Global;
 
 // Opens the devices of the configuration, runs the gateway on them, and gives them back.
@@ -22,8 +22,7 @@ fn run_by<V: Live>(
     requires config { IsLawfulConfig config.now }
     requires turns { AreTurns turns }
     ensures ran { IfOk result (λ report. ∥ RunsBy
-        (tells V.Live V.L.Link V.F.Feed V.C.Clock V.W.Words V.O.OutLink V.P.starts V.P.faults V.K.Link V.N.Copies)
-        config.now turns live.old live.new report ∥₁) }
+        V.Live V.Gateway.seen config.now turns live.old live.new report ∥₁) }
     ensures refused { OnErr result (IsRefused V.Live (opening_by config.now) live.old live.new) }
     ensures failed { IsErrOf result OpenFault.Failed
         → Rose (V.faults live.old) (V.faults live.new) }
@@ -34,30 +33,8 @@ fn run_by<V: Live>(
         Ok(devices) => devices,
         Err(fault) => return Err(fault),
     };
-    let GatewayDevices {
-        mut link,
-        mut control,
-        mut out,
-        mut clock,
-        mut words,
-    } = devices;
-    let report = serve_gateway(
-        alloc,
-        config,
-        turns,
-        &mut link,
-        &mut control,
-        &mut out,
-        &mut clock,
-        &mut words,
-    );
-    live.return_gateway(GatewayDevices {
-        link,
-        control,
-        out,
-        clock,
-        words,
-    });
+    let GatewayRan { devices, report } = devices.serve(alloc, config, turns);
+    live.return_gateway(devices);
     Ok(report)
 }
 
@@ -74,8 +51,7 @@ pub fn run_gateway<F: Files, V: Live>(
 ) -> Result<GatewayServed, ServingFault>
     requires turns { AreTurns turns }
     ensures ran { IfOk result (λ report. ∥ Runs
-        (tells V.Live V.L.Link V.F.Feed V.C.Clock V.W.Words V.O.OutLink V.P.starts V.P.faults V.K.Link V.N.Copies)
-        (F.contents files.old file.now) turns live.old live.new report ∥₁) }
+        V.Live V.Gateway.seen (F.contents files.old file.now) turns live.old live.new report ∥₁) }
 
     ensures unread { IsErrOf result ServingFault.NotRead
         → Rose (F.faults files.old) (F.faults files.new) }

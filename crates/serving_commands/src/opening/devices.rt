@@ -23,14 +23,14 @@ pub struct RelayDevices<L, F, C, W, O, P, K, N> {
     pub control: Option<Control<K, N>>,
 }
 
-/// What a gateway runs on: its link, the feed of its control lines, the link out for packets that it hands on,
-/// its clock and random words.
+/// What a gateway runs on: its link, its control socket, the link out for packets that it hands on, its clock and
+/// random words.
 #[derive(Drop)]
-pub struct GatewayDevices<L, F, O, C, W> {
+pub struct GatewayDevices<L, K, O, C, W> {
     /// By which datagrams of relays come, and the gateway's messages go out.
     pub link: L,
-    /// Where the lines of its sockets' calls come from.
-    pub control: F,
+    /// Where the lines of its sockets' calls come from, and lines that ask it, whose answers go out there.
+    pub control: K,
     /// By which packets that relays sent are handed on.
     pub out: O,
     /// What tells the gateway's moments.
@@ -41,9 +41,9 @@ pub struct GatewayDevices<L, F, O, C, W> {
 
 /// A set of devices: what one run is opened on, and gives back.
 #[derive(Drop)]
-pub enum DeviceSet<L, F, C, W, O, P, K, N> {
+pub enum DeviceSet<R, G> {
     /// What a relay runs on.
-    Relay(RelayDevices<L, F, C, W, O, P, K, N>),
+    Relay(R),
     /// What a gateway runs on.
-    Gateway(GatewayDevices<L, F, O, C, W>),
+    Gateway(G),
 }

@@ -4,57 +4,27 @@ ghost use Rattle.amt_ports.specs.Causes.{Rose};
 
 use crate::opening::counted::{CountedOut, SharedCopies};
 use crate::opening::devices::{GatewayDevices, RelayDevices};
+use crate::opening::host_sets::{HostGateway, HostOut, HostRelay, WorkerThreads};
 use crate::opening::live::{Live, OpenFault};
 use amt_ports::{
-    Failed, GivenBy, HostClock, HostWords, Starts, ThreadSpawner, UdpControl, UdpFeed, UdpLink,
-    UdpOut, open_control, open_sockets,
+    HostClock, HostWords, ThreadSpawner, UdpControl, UdpLink, open_control, open_gateway_sockets,
+    open_sockets,
 };
 use amt_values::Peer;
 use relay_serving::Control;
-use replication_workers::{Outs, Worker, WorkerDone, start_worker};
+use replication_workers::Outs;
 use std::alloc::Global;
 use std::fs;
 use std::fs::Files;
 use std::net::Net;
 use std::random::RandomSource;
 use std::sync::Wait;
-use std::thread::{PromisedHandle, Threads};
+use std::thread::Threads;
 use std::time::Clock;
 
 // How late the system may end a sleep, in nanoseconds. A turn in which nothing comes sleeps twice, for a millisecond
 // each: on time that is some 900 wakings a second, and with this 250.
 const TIMER_SLACK: &str = "3000000";
-
-/// A worker's end of the link's socket, whose sends may be counted.
-type HostOut = CountedOut<UdpOut>;
-
-/// What starts workers that send through UDP sockets, each in a thread of its own.
-#[derive(Debug, Drop)]
-pub struct WorkerThreads<R> {
-    rt: R,
-}
-
-impl<R: Threads + Wait + 'static> Starts<Worker<HostOut>> for WorkerThreads<R> {
-    fn start_thread(
-        &self,
-        work: Worker<HostOut>,
-    ) -> Result<PromisedHandle<WorkerDone<HostOut>, GivenBy<Worker<HostOut>>>, Failed> {
-        start_worker(&self.rt, work)
-    }
-}
-
-type HostDevices<R> = RelayDevices<
-    UdpLink,
-    UdpFeed,
-    HostClock<R>,
-    HostWords<R>,
-    HostOut,
-    ThreadSpawner<R, WorkerThreads<R>>,
-    UdpControl,
-    SharedCopies,
->;
-
-type HostGateway<R> = GatewayDevices<UdpLink, UdpFeed, HostOut, HostClock<R>, HostWords<R>>;
 
 /// The sockets, clock, random words and threads of the machine.
 #[derive(Debug, Drop)]
@@ -158,21 +128,9 @@ impl<R> Live for HostLive<R>
 where
     R: Net + Threads + Wait + Clock + RandomSource + Files + Copy + Drop + 'static,
 {
-    type L = UdpLink;
+    type Relay = HostRelay<R>;
 
-    type F = UdpFeed;
-
-    type C = HostClock<R>;
-
-    type W = HostWords<R>;
-
-    type O = HostOut;
-
-    type P = ThreadSpawner<R, WorkerThreads<R>>;
-
-    type K = UdpControl;
-
-    type N = SharedCopies;
+    type Gateway = HostGateway<R>;
 
     ghost sets = { λ _. None };
 
@@ -190,13 +148,13 @@ where
         feed: &Peer,
         control: &Option<Peer>,
         slots: u32,
-    ) -> Result<HostDevices<R>, OpenFault> {
+    ) -> Result<HostRelay<R>, OpenFault> {
         let opened = open_relay_devices(self.rt, self.alloc, listen, feed, control, slots);
         self.count(&opened);
         opened
     }
 
-    fn return_relay(&mut self, devices: HostDevices<R>)
+    fn return_relay(&mut self, devices: HostRelay<R>)
         ensures faults { self.new.faults ≡ self.old.faults }
     {
         // The sockets are closed here.
@@ -230,11 +188,11 @@ fn open_relay_devices<R>(
     feed: &Peer,
     control: &Option<Peer>,
     slots: u32,
-) -> Result<HostDevices<R>, OpenFault>
+) -> Result<HostRelay<R>, OpenFault>
 where
     R: Net + Threads + Wait + Clock + RandomSource + Files + Copy + Drop + 'static,
-    ensures outs { IfOk result (λ devices. length devices.outs ≡ slots) }
-    ensures control { IfOk result (λ devices. is_some devices.control ≡ is_some control.now) }
+    ensures outs { IfOk result (λ set. length set.devices.outs ≡ slots) }
+    ensures control { IfOk result (λ set. is_some set.devices.control ≡ is_some control.now) }
 {
     let_sleeps_end_late(&rt);
     let Ok((link, feed)) = open_sockets(&rt, listen, feed) else {
@@ -242,14 +200,16 @@ where
     };
     let mut control = open_control_beside(&rt, alloc, control, &link)?;
     let outs = open_outs(alloc, &link, slots, &mut control)?;
-    Ok(RelayDevices {
-        link,
-        feed,
-        clock: HostClock::new(rt),
-        words: HostWords::new(rt),
-        outs,
-        spawner: ThreadSpawner::new(rt, WorkerThreads { rt }),
-        control,
+    Ok(HostRelay {
+        devices: RelayDevices {
+            link,
+            feed,
+            clock: HostClock::new(rt),
+            words: HostWords::new(rt),
+            outs,
+            spawner: ThreadSpawner::new(rt, WorkerThreads::new(rt)),
+            control,
+        },
     })
 }
 
@@ -263,7 +223,7 @@ where
     R: Net + Clock + RandomSource + Files + Copy,
 {
     let_sleeps_end_late(&rt);
-    let Ok((link, control)) = open_sockets(&rt, listen, control) else {
+    let Ok((link, control)) = open_gateway_sockets(&rt, listen, control) else {
         return Err(OpenFault::Failed);
     };
     let Ok(out) = link.worker_end() else {

@@ -1,14 +1,11 @@
 //! What opens the devices of a run.
 ghost use Rattle.std.specs.Prelude.{◌≡◌, ◌≤◌, ℕ, IfOk, IsErrOf, IsSome, List, OnErr, OnOk, Option, is_some, length};
 ghost use Rattle.amt_ports.specs.{Causes.{Rose}, Told.{Appends}};
-ghost use Rattle.serving_commands.specs.{Sets.{HasRoom, TakesFirst, less_room, more_room}, declared.opening.{asked.Opening.{Opening as Asked, TheVariants.{Relay as AskedRelay, Gateway as AskedGateway}}, devices.DeviceSet.{DeviceSet as Set, TheVariants.{Relay as RelaySet, Gateway as GatewaySet}}}};
+ghost use Rattle.serving_commands.specs.{Sets.{HasRoom, TakesFirst, less_room, more_room}, declared.opening.{asked.Opening.{Opening as Asked, TheVariants.{Relay as AskedRelay, Gateway as AskedGateway}}, devices.DeviceSet.{DeviceSet as Set, TheVariants.{Relay as OfRelay, Gateway as OfGateway}}}};
 
 use crate::opening::asked::Opening;
-use crate::opening::devices::{GatewayDevices, RelayDevices};
-use amt_ports::{Clock, Feed, Link, OutLink, Spawner, Words};
+use crate::opening::sets::{GatewaySet, RelaySet};
 use amt_values::Peer;
-use relay_serving::Copies;
-use replication_workers::Worker;
 
 /// Why devices were not opened.
 #[derive(Clone, Copy, Debug, PartialEq, Eq)]
@@ -21,30 +18,20 @@ pub enum OpenFault {
 
 /// A place where the devices of a run are opened, and where they are given back at its end.
 pub trait Live {
-    type L: Link;
+    /// What a relay runs on here.
+    type Relay: RelaySet;
 
-    type F: Feed;
-
-    type C: Clock;
-
-    type W: Words;
-
-    type O: OutLink + Drop;
-
-    type P: Spawner<Worker<Self::O>>;
-
-    type K: Link;
-
-    type N: Copies;
+    /// What a gateway runs on here.
+    type Gateway: GatewaySet;
 
     /// The sets of devices that openings will give from here on, where it tells them.
-    ghost sets: { Self → Option (List (Set Self.L Self.F Self.C Self.W Self.O Self.P Self.K Self.N)) };
+    ghost sets: { Self → Option (List (Set Self.Relay Self.Gateway)) };
 
     /// The openings that were asked for so far, in order, where it tells them.
     ghost asked: { Self → Option (List Asked) };
 
     /// The sets that were given back so far, in order, where it tells them.
-    ghost returned: { Self → Option (List (Set Self.L Self.F Self.C Self.W Self.O Self.P Self.K Self.N)) };
+    ghost returned: { Self → Option (List (Set Self.Relay Self.Gateway)) };
 
     /// For how many sets it has kept room, so that they can be given back without memory. None is that it
     /// needs no room.
@@ -61,13 +48,11 @@ pub trait Live {
         feed: &Peer,
         control: &Option<Peer>,
         slots: u32,
-    ) -> Result<
-        RelayDevices<Self::L, Self::F, Self::C, Self::W, Self::O, Self::P, Self::K, Self::N>,
-        OpenFault,
-    >
-        ensures outs { IfOk result (λ devices. length devices.outs ≡ slots) }
-        ensures control { IfOk result (λ devices. is_some devices.control ≡ is_some control.now) }
-        ensures first { IfOk result (λ devices. TakesFirst (sets self.old) (sets self.new) (RelaySet devices)) }
+    ) -> Result<Self::Relay, OpenFault>
+        ensures outs { IfOk result (λ devices. length (Self.Relay.seen devices).outs ≡ slots) }
+        ensures control { IfOk result
+            (λ devices. is_some (Self.Relay.seen devices).control ≡ is_some control.now) }
+        ensures first { IfOk result (λ devices. TakesFirst (sets self.old) (sets self.new) (OfRelay devices)) }
         ensures room { OnOk result (room self.new ≡ more_room (room self.old)) }
 
         ensures kept { OnErr result (sets self.new ≡ sets self.old) }
@@ -82,21 +67,9 @@ pub trait Live {
         ensures quiet { ¬ IsErrOf result OpenFault.Failed → faults self.new ≡ faults self.old };
 
     /// Takes back what a relay ran on. It takes no memory: the room was made at the opening.
-    fn return_relay(
-        &mut self,
-        devices: RelayDevices<
-            Self::L,
-            Self::F,
-            Self::C,
-            Self::W,
-            Self::O,
-            Self::P,
-            Self::K,
-            Self::N,
-        >,
-    )
+    fn return_relay(&mut self, devices: Self::Relay)
         requires { HasRoom (room self.old) }
-        ensures returned { Appends (returned self.old) (returned self.new) (RelaySet devices) }
+        ensures returned { Appends (returned self.old) (returned self.new) (OfRelay devices) }
         ensures tells { IsSome (returned self.old) → IsSome (returned self.new) }
         ensures room { room self.new ≡ less_room (room self.old) }
 
@@ -104,14 +77,14 @@ pub trait Live {
         ensures asked { asked self.new ≡ asked self.old }
         ensures faults { faults self.new ≡ faults self.old };
 
-    /// Opens what a gateway runs on: the link at the first peer, and the feed of its control lines at the
-    /// second, with one link out.
+    /// Opens what a gateway runs on: the link at the first peer, and its control socket at the second, with one
+    /// link out.
     fn open_gateway(
         &mut self,
         listen: &Peer,
         control: &Peer,
-    ) -> Result<GatewayDevices<Self::L, Self::F, Self::O, Self::C, Self::W>, OpenFault>
-        ensures first { IfOk result (λ devices. TakesFirst (sets self.old) (sets self.new) (GatewaySet devices)) }
+    ) -> Result<Self::Gateway, OpenFault>
+        ensures first { IfOk result (λ devices. TakesFirst (sets self.old) (sets self.new) (OfGateway devices)) }
         ensures room { OnOk result (room self.new ≡ more_room (room self.old)) }
 
         ensures kept { OnErr result (sets self.new ≡ sets self.old) }
@@ -126,12 +99,9 @@ pub trait Live {
         ensures quiet { ¬ IsErrOf result OpenFault.Failed → faults self.new ≡ faults self.old };
 
     /// Takes back what a gateway ran on. It takes no memory: the room was made at the opening.
-    fn return_gateway(
-        &mut self,
-        devices: GatewayDevices<Self::L, Self::F, Self::O, Self::C, Self::W>,
-    )
+    fn return_gateway(&mut self, devices: Self::Gateway)
         requires { HasRoom (room self.old) }
-        ensures returned { Appends (returned self.old) (returned self.new) (GatewaySet devices) }
+        ensures returned { Appends (returned self.old) (returned self.new) (OfGateway devices) }
         ensures tells { IsSome (returned self.old) → IsSome (returned self.new) }
         ensures room { room self.new ≡ less_room (room self.old) }
 

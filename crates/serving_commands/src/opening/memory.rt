@@ -1,16 +1,15 @@
 //! Sets of devices in memory, for tests and callers.
 ghost use Rattle.std.specs.Prelude.{◌≡◌, ◌≤◌, ◌<◌, ◌⊎◌, [], ◌∷◌, Contains, IfOk, IsErr, IsErrOf, IsSome, OnErr, OnOk, Some, false, is_some, length, true};
 ghost use Rattle.amt_ports.specs.{Causes.{HasCause, Rose, next_count}, Tally.{fresh_tally, with_call, with_fault}, Told.{Appends}};
-ghost use Rattle.serving_commands.specs.{MemLive.{with_room}, Sets.{HasRoom, TakesFirst, fits_gateway, fits_relay, is_as_asked, less_room, more_room}, declared.opening.{asked.Opening.TheVariants.{Relay as AskedRelay, Gateway as AskedGateway}, devices.DeviceSet.TheVariants.{Relay as RelaySet, Gateway as GatewaySet}}};
+ghost use Rattle.serving_commands.specs.{MemLive.{with_room}, Sets.{HasRoom, TakesFirst, fits_gateway, fits_relay, less_room, more_room}, declared.opening.{asked.Opening.TheVariants.{Relay as AskedRelay, Gateway as AskedGateway}, devices.DeviceSet.TheVariants.{Relay as OfRelay, Gateway as OfGateway}}};
 
 use crate::opening::asked::{AskedLog, Opening};
-use crate::opening::devices::{DeviceSet, GatewayDevices, RelayDevices};
+use crate::opening::devices::DeviceSet;
 use crate::opening::live::{Live, OpenFault};
 use crate::opening::returns::Returns;
-use amt_ports::{CallTally, Clock, Failed, Feed, Link, OutLink, Spawner, Words};
+use crate::opening::sets::{GatewaySet, RelaySet};
+use amt_ports::{CallTally, Failed};
 use amt_values::Peer;
-use relay_serving::Copies;
-use replication_workers::Worker;
 use std::alloc::Global;
 use std::marker::Model;
 
@@ -18,35 +17,27 @@ use std::marker::Model;
 ///
 /// An opening fails where its number is listed, where no set is to come, and where the first one isn't what it
 /// asks for: of the other kind, or a relay's with another number of links out than there are slots, or with a
-/// control socket where none is asked for, or the other way round. That set stays the first one. Where memory refuses to keep what was asked, the openings aren't told from then on.
+/// control socket where none is asked for, or the other way round. That set stays the first one. Where an allocation
+/// for what was asked fails, the openings aren't told from then on.
 #[derive(Drop)]
-pub struct MemLive<L, F, C, W, O, P, K, N> {
-    sets: Vec<DeviceSet<L, F, C, W, O, P, K, N>>,
+pub struct MemLive<R, G> {
+    sets: Vec<DeviceSet<R, G>>,
     asked: AskedLog,
-    returned: Returns<DeviceSet<L, F, C, W, O, P, K, N>>,
+    returned: Returns<DeviceSet<R, G>>,
     calls: CallTally,
 }
 
-impl<L, F, C, W, O, P, K, N> Model for MemLive<L, F, C, W, O, P, K, N> {
+impl<R, G> Model for MemLive<R, G> {
     ghost use Rattle.serving_commands.specs.{MemLive.{OpenCalls}, declared.opening.devices.DeviceSet.{DeviceSet as Set}};
 
-    ghost Value = { OpenCalls (Set L F C W O P K N) };
+    ghost Value = { OpenCalls (Set R G) };
 
     ghost view = { λ live. record { sets = live.sets.items; asked = live.asked; returned = live.returned; calls = live.calls } };
 }
 
-impl<L: Drop, F: Drop, C: Drop, W: Drop, O: Drop, P: Drop, K: Drop, N: Drop> MemLive<
-    L,
-    F,
-    C,
-    W,
-    O,
-    P,
-    K,
-    N,
-> {
+impl<R: Drop, G: Drop> MemLive<R, G> {
     /// No opening fails while a set that fits it is to come.
-    pub fn new(alloc: Global, sets: Vec<DeviceSet<L, F, C, W, O, P, K, N>>) -> Self
+    pub fn new(alloc: Global, sets: Vec<DeviceSet<R, G>>) -> Self
         ensures sets { result.sets ≡ sets.items }
         ensures asked { result.asked ≡ Some [] }
         ensures returned { result.returned.sets ≡ [] }
@@ -59,7 +50,7 @@ impl<L: Drop, F: Drop, C: Drop, W: Drop, O: Drop, P: Drop, K: Drop, N: Drop> Mem
     /// The openings of these numbers fail, counted from 1.
     pub fn failing(
         alloc: Global,
-        sets: Vec<DeviceSet<L, F, C, W, O, P, K, N>>,
+        sets: Vec<DeviceSet<R, G>>,
         calls: Vec<u64>,
     ) -> Self
         ensures sets { result.sets ≡ sets.items }
@@ -84,7 +75,7 @@ impl<L: Drop, F: Drop, C: Drop, W: Drop, O: Drop, P: Drop, K: Drop, N: Drop> Mem
     }
 
     /// The sets that were given back, in order.
-    pub fn returned(&self) -> &[DeviceSet<L, F, C, W, O, P, K, N>]
+    pub fn returned(&self) -> &[DeviceSet<R, G>]
         ensures { result.now ≡ self.now.returned.sets }
     {
         self.returned.as_slice()
@@ -98,35 +89,18 @@ impl<L: Drop, F: Drop, C: Drop, W: Drop, O: Drop, P: Drop, K: Drop, N: Drop> Mem
     }
 }
 
-// Whether there is a control socket exactly where one is asked for.
-fn is_as_asked<T>(asked: bool, control: &Option<T>) -> bool
-    ensures { result ≡ is_as_asked asked control.now }
-{
-    if asked {
-        control.is_some()
-    } else {
-        control.is_none()
-    }
-}
-
 // Whether the first set to come is a relay's, with so many links out, and a control socket as asked.
-fn fits_relay<L, F, C, W, O: Drop, P, K, N>(
-    slots: u32,
-    asked: bool,
-    sets: &[DeviceSet<L, F, C, W, O, P, K, N>],
-) -> bool
-    ensures { result ≡ fits_relay slots asked sets.now }
+fn fits_relay<R: RelaySet, G>(slots: u32, asked: bool, sets: &[DeviceSet<R, G>]) -> bool
+    ensures { result ≡ fits_relay R.seen slots asked sets.now }
 {
     match sets.first() {
-        Some(DeviceSet::Relay(devices)) => {
-            devices.outs.len() == slots as usize && is_as_asked(asked, &devices.control)
-        }
+        Some(DeviceSet::Relay(devices)) => devices.is_for(slots, asked),
         _ => false,
     }
 }
 
 // Whether the first set to come is a gateway's.
-fn fits_gateway<L, F, C, W, O, P, K, N>(sets: &[DeviceSet<L, F, C, W, O, P, K, N>]) -> bool
+fn fits_gateway<R, G>(sets: &[DeviceSet<R, G>]) -> bool
     ensures { result ≡ fits_gateway sets.now }
 {
     matches!(sets.first(), Some(DeviceSet::Gateway(_)))
@@ -197,15 +171,11 @@ fn take_first<T>(sets: &mut Vec<T>) -> T
 }
 
 // Takes the first set out, which is a relay's.
-fn take_relay<L, F, C, W, O, P, K, N>(
-    slots: u32,
-    asked: bool,
-    sets: &mut Vec<DeviceSet<L, F, C, W, O, P, K, N>>,
-) -> RelayDevices<L, F, C, W, O, P, K, N>
-    requires { fits_relay slots asked sets.old.items ≡ true }
-    ensures first { sets.old.items ≡ RelaySet result ∷ sets.new.items }
-    ensures outs { length result.outs ≡ slots }
-    ensures control { is_some result.control ≡ asked }
+fn take_relay<R: RelaySet, G>(slots: u32, asked: bool, sets: &mut Vec<DeviceSet<R, G>>) -> R
+    requires { fits_relay R.seen slots asked sets.old.items ≡ true }
+    ensures first { sets.old.items ≡ OfRelay result ∷ sets.new.items }
+    ensures outs { length (R.seen result).outs ≡ slots }
+    ensures control { is_some (R.seen result).control ≡ asked }
 {
     match take_first(sets) {
         DeviceSet::Relay(devices) => devices,
@@ -214,11 +184,9 @@ fn take_relay<L, F, C, W, O, P, K, N>(
 }
 
 // Takes the first set out, which is a gateway's.
-fn take_gateway<L, F, C, W, O, P, K, N>(
-    sets: &mut Vec<DeviceSet<L, F, C, W, O, P, K, N>>,
-) -> GatewayDevices<L, F, O, C, W>
+fn take_gateway<R, G>(sets: &mut Vec<DeviceSet<R, G>>) -> G
     requires { fits_gateway sets.old.items ≡ true }
-    ensures first { sets.old.items ≡ GatewaySet result ∷ sets.new.items }
+    ensures first { sets.old.items ≡ OfGateway result ∷ sets.new.items }
 {
     match take_first(sets) {
         DeviceSet::Gateway(devices) => devices,
@@ -226,32 +194,10 @@ fn take_gateway<L, F, C, W, O, P, K, N>(
     }
 }
 
-impl<L, F, C, W, O, P, K, N> Live for MemLive<L, F, C, W, O, P, K, N>
-where
-    L: Link + Drop,
-    F: Feed + Drop,
-    C: Clock + Drop,
-    W: Words + Drop,
-    O: OutLink + Drop,
-    P: Spawner<Worker<O>> + Drop,
-    K: Link + Drop,
-    N: Copies + Drop,
-{
-    type L = L;
+impl<R: RelaySet + Drop, G: GatewaySet + Drop> Live for MemLive<R, G> {
+    type Relay = R;
 
-    type F = F;
-
-    type C = C;
-
-    type W = W;
-
-    type O = O;
-
-    type P = P;
-
-    type K = K;
-
-    type N = N;
+    type Gateway = G;
 
     ghost sets = { λ live. Some live.sets };
 
@@ -269,11 +215,12 @@ where
         feed: &Peer,
         control: &Option<Peer>,
         slots: u32,
-    ) -> Result<RelayDevices<L, F, C, W, O, P, K, N>, OpenFault>
-        ensures outs { IfOk result (λ devices. length devices.outs ≡ slots) }
-        ensures control { IfOk result (λ devices. is_some devices.control ≡ is_some control.now) }
+    ) -> Result<R, OpenFault>
+        ensures outs { IfOk result (λ devices. length (R.seen devices).outs ≡ slots) }
+        ensures control { IfOk result
+            (λ devices. is_some (R.seen devices).control ≡ is_some control.now) }
         ensures first { IfOk result (λ devices. TakesFirst (Some self.old.sets)
-            (Some self.new.sets) (RelaySet devices)) }
+            (Some self.new.sets) (OfRelay devices)) }
         ensures room { OnOk result
             (Some self.new.returned.room ≡ more_room (Some self.old.returned.room)) }
 
@@ -294,11 +241,11 @@ where
 
         ensures listed { Contains self.old.calls.failing (next_count self.old.calls.made)
             → IsErrOf result OpenFault.Failed }
-        ensures unfit { fits_relay slots (is_some control.now) self.old.sets ≡ false
+        ensures unfit { fits_relay R.seen slots (is_some control.now) self.old.sets ≡ false
             → IsErrOf result OpenFault.Failed }
         ensures only { IsErrOf result OpenFault.Failed
             → Contains self.old.calls.failing (next_count self.old.calls.made)
-            ⊎ (fits_relay slots (is_some control.now) self.old.sets ≡ false) }
+            ⊎ (fits_relay R.seen slots (is_some control.now) self.old.sets ≡ false) }
         ensures err { IsErrOf result OpenFault.Failed
             → self.new.calls ≡ with_fault (with_call self.old.calls) }
         ensures ok { ¬ IsErrOf result OpenFault.Failed
@@ -324,10 +271,10 @@ where
         }
     }
 
-    fn return_relay(&mut self, devices: RelayDevices<L, F, C, W, O, P, K, N>)
+    fn return_relay(&mut self, devices: R)
         requires { HasRoom (Some self.old.returned.room) }
         ensures returned { Appends (Some self.old.returned.sets) (Some self.new.returned.sets)
-            (RelaySet devices) }
+            (OfRelay devices) }
         ensures tells { IsSome (Some self.old.returned.sets)
             → IsSome (Some self.new.returned.sets) }
         ensures room { Some self.new.returned.room ≡ less_room (Some self.old.returned.room) }
@@ -341,13 +288,9 @@ where
         self.returned.keep(DeviceSet::Relay(devices));
     }
 
-    fn open_gateway(
-        &mut self,
-        listen: &Peer,
-        control: &Peer,
-    ) -> Result<GatewayDevices<L, F, O, C, W>, OpenFault>
+    fn open_gateway(&mut self, listen: &Peer, control: &Peer) -> Result<G, OpenFault>
         ensures first { IfOk result (λ devices. TakesFirst (Some self.old.sets)
-            (Some self.new.sets) (GatewaySet devices)) }
+            (Some self.new.sets) (OfGateway devices)) }
         ensures room { OnOk result
             (Some self.new.returned.room ≡ more_room (Some self.old.returned.room)) }
 
@@ -394,10 +337,10 @@ where
         }
     }
 
-    fn return_gateway(&mut self, devices: GatewayDevices<L, F, O, C, W>)
+    fn return_gateway(&mut self, devices: G)
         requires { HasRoom (Some self.old.returned.room) }
         ensures returned { Appends (Some self.old.returned.sets) (Some self.new.returned.sets)
-            (GatewaySet devices) }
+            (OfGateway devices) }
         ensures tells { IsSome (Some self.old.returned.sets)
             → IsSome (Some self.new.returned.sets) }
         ensures room { Some self.new.returned.room ≡ less_room (Some self.old.returned.room) }

@@ -1,18 +1,18 @@
 //! A relay is run on devices that are opened for it.
 ghost use Rattle.std.specs.Prelude.{◌≡◌, ◌⊎◌, ℕ, List, IfErr, IfOk, IsErrOf, OnErr, Some};
 ghost use Rattle.amt_ports.specs.Causes.{Rose};
-ghost use Rattle.serving_commands.specs.{RelayOpenings.{IsRefusedBy, opening_by}, RelayPlans.{AreTurns, AreWorkers}, RelayRunning.{Runs, RunsBy}, Kinds.{relay_file}, Lives.{tells}, Openings.{ComesFirst, IsRefused}, Reading.{Decides, TellsFault}};
+ghost use Rattle.serving_commands.specs.{RelayOpenings.{IsRefusedBy, opening_by}, RelayPlans.{AreTurns, AreWorkers}, RelayRunning.{Runs, RunsBy}, Kinds.{relay_file}, Openings.{ComesFirst, IsRefused}, Reading.{Decides, TellsFault}};
 ghost use Rattle.relay_machine.specs.Settings.{AreLawfulSettings};
 ghost use Rattle.amt_config.specs.Relay.{settings_of};
 ghost use Rattle.relay_serving.specs.Plans.{IsLawfulPlan};
 
 use crate::fault::ServingFault;
-use crate::opening::{Live, OpenFault, RelayDevices};
+use crate::opening::{Live, OpenFault, RelayRan, RelaySet};
 use crate::reading::read_settings;
 use crate::relay::plan::plan_by;
 use amt_config::RelayConfig;
 use amt_ports::Files;
-use relay_serving::{ServePlan, ServeReport, Served, serve_relay};
+use relay_serving::{ServePlan, ServeReport};
 use std::alloc::Global;
 use std::sync::Wait;
 
@@ -27,8 +27,7 @@ fn run_by<R: Wait, V: Live>(
     requires settings { AreLawfulSettings (settings_of config.now) }
     requires plan { IsLawfulPlan plan.now }
     ensures ran { IfOk result (λ report. ∥ RunsBy
-        (tells V.Live V.L.Link V.F.Feed V.C.Clock V.W.Words V.O.OutLink V.P.starts V.P.faults V.K.Link V.N.Copies)
-        config.now plan.now live.old live.new report ∥₁) }
+        V.Live V.Relay.seen config.now plan.now live.old live.new report ∥₁) }
     ensures refused { OnErr result
         (IsRefused V.Live (opening_by config.now plan.now) live.old live.new) }
     ensures failed { IsErrOf result OpenFault.Failed
@@ -41,41 +40,12 @@ fn run_by<R: Wait, V: Live>(
         Ok(devices) => devices,
         Err(fault) => return Err(fault),
     };
-    let RelayDevices {
-        mut link,
-        mut feed,
-        mut clock,
-        mut words,
-        outs,
-        mut spawner,
-        mut control,
-    } = devices;
-    let Served {
+    let RelayRan {
+        devices,
         report,
-        outs,
         views,
-    } = serve_relay(
-        rt,
-        alloc,
-        config.settings(),
-        plan,
-        &mut link,
-        &mut feed,
-        &mut clock,
-        &mut words,
-        outs,
-        &mut spawner,
-        &mut control,
-    );
-    live.return_relay(RelayDevices {
-        link,
-        feed,
-        clock,
-        words,
-        outs,
-        spawner,
-        control,
-    });
+    } = devices.serve(rt, alloc, config.settings(), plan);
+    live.return_relay(devices);
     Ok(report)
 }
 
@@ -96,8 +66,7 @@ pub fn run_relay<R: Wait, F: Files, V: Live>(
     requires turns { AreTurns turns }
     requires workers { AreWorkers workers }
     ensures ran { IfOk result (λ report. ∥ Runs
-        (tells V.Live V.L.Link V.F.Feed V.C.Clock V.W.Words V.O.OutLink V.P.starts V.P.faults V.K.Link V.N.Copies)
-        (F.contents files.old file.now) turns workers live.old live.new report ∥₁) }
+        V.Live V.Relay.seen (F.contents files.old file.now) turns workers live.old live.new report ∥₁) }
 
     ensures unread { IsErrOf result ServingFault.NotRead
         → Rose (F.faults files.old) (F.faults files.new) }

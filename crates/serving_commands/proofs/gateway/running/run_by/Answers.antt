@@ -14,14 +14,8 @@ pub returns-clause-ran : goal.returns-clause-ran
 returns-clause-ran g c =
     let opening = c.in-Ok.ensures in
     let back = c.return_gateway.ensures in
-    let served = c.serve_gateway-report in
-    ∥∥₁_map served.ensures.serves
-    (ran _ c.args.config.now c.args.turns c.args.live.now c.open_gateway.new.self c.return_gateway.new.self c.in-Ok.devices
-    (record {
-      link = served.new.link;
-      control = served.new.control;
-      out = served.new.out;
-      clock = served.new.clock;
-      words = served.new.words;
-    }) served.result c.open_gateway.ensures.asked opening.first opening.tells c.open_gateway.ensures.returned opening.room
+    let served = c.serve-devices in
+    ∥∥₁_map served.ensures
+    (ran _ _ c.args.config.now c.args.turns c.args.live.now c.open_gateway.new.self c.return_gateway.new.self c.in-Ok.devices served.result.devices served.result.report
+    c.open_gateway.ensures.asked opening.first opening.tells c.open_gateway.ensures.returned opening.room
     back.returned back.tells back.room back.kept back.asked)

@@ -40,7 +40,7 @@ pub run_by-requires-clause-config : goal.run_by-requires-clause-config
 run_by-requires-clause-config g c = let configured = c.in-Ok.ensures.found in lawful_config c.in-Ok.config configured.octets configured.file
 
 pub returns-in-Ok-run_by-clause-ran : goal.returns-in-Ok-run_by-clause-ran
-returns-in-Ok-run_by-clause-ran g c = ∥∥₁_map c.in-Ok-run_by.ensures.ran (ran_by _ _ c.in-Ok.config c.args.turns _ _ c.in-Ok-run_by.report c.in-Ok.ensures.found)
+returns-in-Ok-run_by-clause-ran g c = ∥∥₁_map c.in-Ok-run_by.ensures.ran (ran_by _ _ _ c.in-Ok.config c.args.turns _ _ c.in-Ok-run_by.report c.in-Ok.ensures.found)
 
 pub returns-in-Ok-run_by-clause-absent : goal.returns-in-Ok-run_by-clause-absent
 returns-in-Ok-run_by-clause-absent g c = λ lacks. absurd (cc (c.in-Ok.ensures.absent lacks))

@@ -47,7 +47,7 @@ run_by-requires-clause-plan g c =
 pub returns-in-Ok-run_by-clause-ran : goal.returns-in-Ok-run_by-clause-ran
 returns-in-Ok-run_by-clause-ran g c =
     ∥∥₁_map c.in-Ok-run_by.ensures.ran
-    (ran_by _
+    (ran_by _ _
     _ c.in-Ok.config c.args.turns c.args.workers _ _ c.plan_by-plan.result c.in-Ok-run_by.report c.in-Ok.ensures.found c.plan_by-plan.ensures)
 
 pub returns-in-Ok-run_by-clause-absent : goal.returns-in-Ok-run_by-clause-absent

@@ -15,11 +15,11 @@ returns-in-Err-clause-listed g c = λ listed.
 
 pub returns-in-Err-clause-only : goal.returns-in-Err-clause-only
 returns-in-Err-clause-only g c = λ is.
-    subst (λ live. Contains live.calls.failing (next_count live.calls.made) ⊎ (fits_relay c.args.slots (is_some c.args.control.now) live.sets ≡ false)) c.self.view_is
+    subst (λ live. Contains live.calls.failing (next_count live.calls.made) ⊎ (fits_relay g.R.RelaySet.seen c.args.slots (is_some c.args.control.now) live.sets ≡ false)) c.self.view_is
     (elim (c.in-Err.ensures.only (same_fault c.in-Err.fault Failed is)) [
       | inl listed ↦ inl listed
-      | inr unfit ↦ inr (subst (λ sets. fits_relay c.args.slots (is_some c.args.control.now) sets ≡ false) c.as_slice.ensures.value
-          (subst (λ asked. fits_relay c.args.slots asked c.as_slice.result.now ≡ false) c.is_some-asked.ensures (sym c.fits_relay-fits.ensures ∙ unfit)))
+      | inr unfit ↦ inr (subst (λ sets. fits_relay g.R.RelaySet.seen c.args.slots (is_some c.args.control.now) sets ≡ false) c.as_slice.ensures.value
+          (subst (λ asked. fits_relay g.R.RelaySet.seen c.args.slots asked c.as_slice.result.now ≡ false) c.is_some-asked.ensures (sym c.fits_relay-fits.ensures ∙ unfit)))
     ])
 
 pub returns-in-Err-clause-ok : goal.returns-in-Err-clause-ok
@@ -49,7 +49,7 @@ returns-in-Err-clause-asked g c = subst (λ live. Appends live.asked c.admit.new
 pub returns-in-Err-clause-unfit : goal.returns-in-Err-clause-unfit
 returns-in-Err-clause-unfit g c = λ unfit.
     same_fault c.in-Err.fault Failed
-    (c.in-Err.ensures.unfit (c.fits_relay-fits.ensures ∙ subst (λ asked. fits_relay c.args.slots asked c.as_slice.result.now ≡ false) (sym c.is_some-asked.ensures) (subst (λ sets. fits_relay c.args.slots (is_some c.args.control.now) sets ≡ false) (sym c.as_slice.ensures.value) (subst (λ live. fits_relay c.args.slots (is_some c.args.control.now) live.sets ≡ false) (sym c.self.view_is) unfit))))
+    (c.in-Err.ensures.unfit (c.fits_relay-fits.ensures ∙ subst (λ asked. fits_relay g.R.RelaySet.seen c.args.slots asked c.as_slice.result.now ≡ false) (sym c.is_some-asked.ensures) (subst (λ sets. fits_relay g.R.RelaySet.seen c.args.slots (is_some c.args.control.now) sets ≡ false) (sym c.as_slice.ensures.value) (subst (λ live. fits_relay g.R.RelaySet.seen c.args.slots (is_some c.args.control.now) live.sets ≡ false) (sym c.self.view_is) unfit))))
 
 pub returns-in-Err-clause-err : goal.returns-in-Err-clause-err
 returns-in-Err-clause-err g c = λ is. subst (λ live. c.admit.new.calls ≡ with_fault (with_call live.calls)) c.self.view_is (c.in-Err.ensures.err (same_fault c.in-Err.fault Failed is))
