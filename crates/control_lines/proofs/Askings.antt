@@ -38,7 +38,7 @@ begins Stop line says = subst BeginsAsking (sym says) (inr (inr refl))
 begins (ShowOf peer) line says = subst BeginsAsking (sym says.1) (inr (inl refl))
 
 abbrev HasFew : List (List ℕ) → Type 0
-HasFew line = length line ≤ most_fields line
+HasFew line = length line ≤ most_fields (codes "show") line
 
 few : (asking : Asking) (line : List (List ℕ)) → SaysAsking asking line → HasFew line
 few Counts line says = subst HasFew (sym says) (omega arith)

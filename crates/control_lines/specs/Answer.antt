@@ -1,5 +1,5 @@
 -- Answers to control lines: a text in pieces, a datagram each, and a line after the last one.
-use Rattle.std.specs.{Prelude.{◌≡◌, ◌≤◌, ◌<◌, ℕ, ◌-◌, ◌==◌, not, List, [], ◌∷◌, ◌++◌, length, take, drop, map, codes, if◌then◌else◌}, List.{suffix_len}}
+use Rattle.std.specs.{Prelude.{◌≡◌, ◌≤◌, ◌<◌, ℕ, ◌-◌, ◌==◌, ◌||◌, Bool, not, nat_eq, List, [], ◌∷◌, ◌++◌, length, take, drop, map, codes, if◌then◌else◌}, List.{starts_with, suffix_len}}
 use Rattle.amt_values.specs.declared.peer.Peer.{Peer}
 use Rattle.amt_ports.specs.{Devices.{LinkSeen}, Tried.{HasTried}}
 use Rattle.script_lines.specs.{Texts.{closing_text, reason_word}, declared.reason.Reason.{Reason}}
@@ -7,6 +7,10 @@ use Rattle.script_lines.specs.{Texts.{closing_text, reason_word}, declared.reaso
 -- `bad REASON`, of a line that asks for nothing
 abbrev pub bad_text : Reason → List ℕ
 bad_text reason = codes "bad " ++ (reason_word reason ++ (10 ∷ []))
+
+-- the octets begin as what answers a line that asks for nothing, or one of which nothing is said
+abbrev pub is_answer : List ℕ → Bool
+is_answer octets = starts_with nat_eq octets (codes "bad ") || starts_with nat_eq octets (codes ". ")
 
 -- how many octets there are up to the last line feed, with it
 abbrev pub lines_length : List ℕ → ℕ

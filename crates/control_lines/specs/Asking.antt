@@ -1,4 +1,4 @@
--- Lines that ask a running relay for something.
+-- Lines that ask a running relay for something, and what lines to either end have in common.
 use Rattle.std.specs.{Prelude.{◌≡◌, ◌<◌, ℕ, ◌-◌, ◌==◌, ◌⊎◌, List, [], ◌∷◌, length, take, slice_index, codes, if◌then◌else◌}, Str.{Lines.{strip_carriage_return}, bytes_eq}}
 use Rattle.amt_values.specs.{Text.{IsPeerText}, declared.peer.Peer.{Peer}}
 use Rattle.script_lines.specs.{Lines.{IsPlain, fields}, declared.reason.Reason.{Reason}}
@@ -26,10 +26,10 @@ abbrev pub BeginsAsking : List (List ℕ) → Type 0
 BeginsAsking [] = ⊥
 BeginsAsking (word ∷ values) = (word ≡ codes "counts") ⊎ (word ≡ codes "show") ⊎ (word ≡ codes "stop")
 
--- the most fields of a line: two where its word may have a peer after it, else one
-abbrev pub most_fields : List (List ℕ) → ℕ
-most_fields [] = 1
-most_fields (word ∷ values) = if bytes_eq word (codes "show") then 2 else 1
+-- the most fields of a line: two where its word is the one that may have a field after it, else one
+abbrev pub most_fields : List ℕ → List (List ℕ) → ℕ
+most_fields longer [] = 1
+most_fields longer (word ∷ values) = if bytes_eq word longer then 2 else 1
 
 -- the field after `show` is no text of a peer
 abbrev pub NamesNoPeer : List (List ℕ) → Type 0
@@ -38,7 +38,7 @@ NamesNoPeer line = (text : List ℕ) × (line ≡ codes "show" ∷ text ∷ []) 
 -- what is wrong with a line
 abbrev pub Fails : List ℕ → Reason → Type 0
 Fails line reasons.Word = ¬ (IsPlain line × BeginsAsking (fields line))
-Fails line reasons.Count = most_fields (fields line) < length (fields line)
+Fails line reasons.Count = most_fields (codes "show") (fields line) < length (fields line)
 Fails line reasons.Peer = NamesNoPeer (fields line)
 Fails line _ = ⊥
 

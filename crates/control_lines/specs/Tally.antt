@@ -1,5 +1,10 @@
 -- How often each of some words was said.
-use Rattle.std.specs.{Prelude.{ℕ, ◌==◌, Bool, true, not, ◌&&◌, IsTrue, List, [], ◌∷◌, ◌++◌, map, codes, decimal, if◌then◌else◌}, List.{count_by, list_any}, Str.{bytes_eq}}
+use Rattle.std.specs.{Prelude.{◌≡◌, ◌⊎◌, ℕ, ◌==◌, Bool, true, not, ◌&&◌, IsTrue, List, [], ◌∷◌, ◌++◌, map, codes, decimal, if◌then◌else◌}, List.{count_by, list_any}, Str.{bytes_eq}}
+use Rattle.script_lines.specs.Texts.{BeginsWith}
+
+-- a text is the word alone, or goes on with a space after it
+abbrev pub BeginsWithWord : List ℕ → List ℕ → Type 0
+BeginsWithWord text word = (text ≡ word) ⊎ BeginsWith text (word ++ codes " ")
 
 -- how often each word was said
 abbrev pub numbers_of : List (List ℕ) → List (List ℕ) → List ℕ

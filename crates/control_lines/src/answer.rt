@@ -4,7 +4,7 @@ ghost use Rattle.std.specs.Prelude.{◌≡◌, ◌≤◌, ◌<◌, ◌+◌, ◌^
 ghost use Rattle.std.specs.List.{concat};
 ghost use Rattle.amt_ports.specs.Devices.{link_at};
 ghost use Rattle.script_lines.specs.Texts.{BeginsWith, closing_text};
-ghost use Rattle.control_lines.specs.{Answer.{AreCut, HasReplied, HasSentTo, IsAnswer, bad_text, closed, piece_length}};
+ghost use Rattle.control_lines.specs.{Answer.{AreCut, HasReplied, HasSentTo, IsAnswer, bad_text, closed, is_answer, piece_length}};
 
 use amt_ports::Link;
 use amt_values::{Bytes, Peer};
@@ -23,6 +23,15 @@ pub fn append_bad(text: &mut Bytes, reason: Reason) -> Result<(), AllocError>
     text.append(b"bad ")?;
     text.append(reason.word().as_bytes())?;
     text.append(b"\n")
+}
+
+/// Whether a datagram begins as what answers a line that asks for nothing, or one of which nothing is said.
+///
+/// Such a line is answered by nothing: else two controls that hear one another would answer for ever.
+pub fn is_answer(datagram: &[u8]) -> bool
+    ensures { result ≡ is_answer datagram.now }
+{
+    datagram.starts_with(b"bad ") || datagram.starts_with(b". ")
 }
 
 // How many of a text's first octets are its next piece.

@@ -1,4 +1,4 @@
-//! What a line asks a running relay for.
+//! What a line asks a running relay for, and the octets of a line to either end.
 
 ghost use Rattle.std.specs.Prelude.{◌≡◌, ◌⊎◌, ◌<◌, ◌∷◌, [], length, codes, IfOk, IfErr, IfSome, IfNone, IsErrOf, IsTrue};
 ghost use Rattle.amt_values.specs.Conditions.{First};
@@ -21,8 +21,8 @@ pub enum Asking {
     Stop,
 }
 
-// The octets without a line feed at their end, and then without a carriage return.
-fn line_of(octets: &[u8]) -> &[u8]
+/// The octets without a line feed at their end, and then without a carriage return.
+pub(crate) fn line_of(octets: &[u8]) -> &[u8]
     ensures { result.now ≡ line_of octets.now }
 {
     match octets {

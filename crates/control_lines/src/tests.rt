@@ -1,6 +1,9 @@
 //! Askings and answers as they are printed.
 
-use crate::{Asking, Tally, answer_line, append_bad, append_tally, read_asking};
+use crate::{
+    Asking, GatewayAsking, Tally, answer_line, append_bad, append_tally, begins_asking, is_answer,
+    read_asking, read_gateway_asking,
+};
 use amt_ports::MemLink;
 use amt_values::{AMT_PORT, Bytes, Ip, Peer};
 use script_lines::Reason;
@@ -38,6 +41,42 @@ const LINES: [(&[u8], Result<Asking, Reason>); 20] = [
     (b"show counts", Err(Reason::Peer)),
 ];
 
+// Lines to a gateway, what they are read as, and whether they begin as askings.
+const GATEWAY_LINES: [(&[u8], Result<GatewayAsking, Reason>, bool); 18] = [
+    (b"counts\r\n", Ok(GatewayAsking::Counts), true),
+    (b" show", Ok(GatewayAsking::Show), true),
+    (b"stop\n", Ok(GatewayAsking::Stop), true),
+    (b"stop  leave \n", Ok(GatewayAsking::StopLeave), true),
+    (b"counts leave", Err(Reason::Count), true),
+    (b"show 192.0.2.1:2268", Err(Reason::Count), true),
+    (b"stop leave leave", Err(Reason::Count), true),
+    (b"stop leav", Err(Reason::Word), true),
+    (b"stop now leave", Err(Reason::Word), true),
+    (b"", Err(Reason::Word), false),
+    (b"\r\n", Err(Reason::Word), false),
+    (b"stop leave\r", Err(Reason::Word), false),
+    (b"stop\n\n", Err(Reason::Word), false),
+    (b"counts \xff", Err(Reason::Word), false),
+    (b"leave", Err(Reason::Word), false),
+    (b"stopleave", Err(Reason::Word), false),
+    (b"Show", Err(Reason::Word), false),
+    (b"open a 239.1.1.1 exclude", Err(Reason::Word), false),
+];
+
+// Lines, and whether they are answers of a control.
+const ANSWERS: [(&[u8], bool); 10] = [
+    (b"bad word\n. 1\n", true),
+    (b"bad ", true),
+    (b". 1\n", true),
+    (b". ", true),
+    (b"bad", false),
+    (b"badmac 3", false),
+    (b" bad word", false),
+    (b".", false),
+    (b"", false),
+    (b"counts", false),
+];
+
 // How many lines of how many octets each, the last octet a line feed or not, and the lengths of the datagrams.
 const CUTS: [(usize, usize, u8, &[usize]); 6] = [
     (0, 0, b'\n', &[4]),
@@ -51,6 +90,19 @@ const CUTS: [(usize, usize, u8, &[usize]); 6] = [
 fn check_lines(rt: &impl Abort) {
     for (line, wanted) in LINES {
         assert_eq!(rt; read_asking(line), wanted);
+    }
+}
+
+fn check_gateway_lines(rt: &impl Abort) {
+    for (line, wanted, begins) in GATEWAY_LINES {
+        assert_eq!(rt; read_gateway_asking(line), wanted);
+        assert_eq!(rt; begins_asking(line), begins);
+    }
+}
+
+fn check_answers(rt: &impl Abort) {
+    for (line, wanted) in ANSWERS {
+        assert_eq!(rt; is_answer(line), wanted);
     }
 }
 
@@ -105,6 +157,8 @@ fn check_text(rt: &impl Abort, alloc: Global) -> Result<(), AllocError> {
 #[test]
 fn lines_ask_and_answers_are_cut(rt: HostRuntime) {
     check_lines(&rt);
+    check_gateway_lines(&rt);
+    check_answers(&rt);
     let alloc = rt.alloc();
     assert!(rt; check_cuts(&rt, alloc).is_ok());
     assert!(rt; check_text(&rt, alloc).is_ok());
