@@ -15,6 +15,8 @@ mod gateway;
 #[cfg(test)]
 mod gateway_ends;
 #[cfg(test)]
+mod ordered;
+#[cfg(test)]
 mod relay;
 #[cfg(test)]
 mod relay_ends;
