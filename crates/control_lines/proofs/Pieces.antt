@@ -1,9 +1,10 @@
 -- The pieces of a text, and the datagrams of an answer.
-use Rattle.std.{proofs.{Common.{◌≡◌, ◌≤◌, ◌<◌, ◌^◌, ℕ, ◌+◌, ◌==◌, List, [], ◌∷◌, ◌++◌, length, take, drop, decimal, All, refl, sym, ap, subst, ◌∙◌, append_assoc, length-append, arith}, lemmas.{Bool.{cond_both, eqb-false}, Fmt.{length-decimal-le_wide}, List.{append-nil, drop_at, length-drop, length-take, take_at, take-append-drop}, List.Elements.{All-cons, All-nil, All-same}}}, specs.List.{concat}}
+use Rattle.std.{proofs.{Common.{◌≡◌, ◌≤◌, ◌<◌, ◌^◌, ℕ, ◌+◌, ◌==◌, true, List, [], ◌∷◌, ◌++◌, length, take, drop, decimal, All, refl, sym, ap, subst, ◌∙◌, append_assoc, length-append, arith}, lemmas.{Bool.{cond_both, eqb-false}, Fmt.{length-decimal-le_wide}, List.{append-nil, drop_at, length-drop, length-take, take_at, take-append-drop}, List.Elements.{All-cons, All-nil, All-same}}}, specs.List.{concat}}
 use Rattle.amt_values.specs.declared.peer.Peer.{Peer}
 use Rattle.amt_ports.specs.Devices.{LinkSeen}
-use Rattle.script_lines.specs.Texts.{closing_text}
-use Rattle.control_lines.{specs.Answer.{AreCut, HasReplied, HasSentTo, IsAnswer, closed, lines_length, piece_length}, proofs.Cutting.{piece_small}}
+use Rattle.script_lines.specs.{Texts.{closing_text, reason_word}, declared.reason.Reason.{Reason}}
+use Rattle.script_lines.specs.declared.reason.Reason.TheVariants as reasons
+use Rattle.control_lines.{specs.Answer.{AreCut, HasReplied, HasSentTo, IsAnswer, bad_text, closed, is_answer, lines_length, piece_length}, proofs.Cutting.{piece_small}}
 
 -- a text is cut in one way
 pub AreCut-unique : (text : List ℕ) (pieces others : List (List ℕ)) → AreCut text pieces → AreCut text others → pieces ≡ others
@@ -54,6 +55,9 @@ unfolding closing_text
 closing_small count small =
     omega (arith, length-decimal-le_wide 20 count (omega arith) small (omega (arith, small)), length-append (decimal count) (10 ∷ []))
 
+abbrev IsKnown : List ℕ → Type 0
+IsKnown datagram = is_answer datagram ≡ true
+
 abbrev IsSmall : List ℕ → Type 0
 IsSmall datagram = length datagram ≤ 1400
 
@@ -82,6 +86,37 @@ IsAnswer-whole text datagrams answer =
 pub IsAnswer-unique : (text : List ℕ) (datagrams others : List (List ℕ)) → IsAnswer text datagrams → IsAnswer text others → datagrams ≡ others
 IsAnswer-unique text datagrams others one other =
     one.2 ∙ ap (λ (pieces : List (List ℕ)). closed pieces (closing_text (length pieces))) (AreCut-unique text one.0 other.0 one.1 other.1) ∙ sym other.2
+
+-- each datagram of a short answer is known, if the one datagram is
+pub IsAnswer-known : (text : List ℕ) (datagrams : List (List ℕ)) → length text ≤ 1376 → is_answer (text ++ closing_text 1) ≡ true → IsAnswer text datagrams
+    → All (λ datagram. is_answer datagram ≡ true) datagrams
+IsAnswer-known text datagrams short known (_, AreCut.whole _ _, are) =
+    All-same IsKnown datagrams ((text ++ closing_text 1) ∷ []) are (All-cons IsKnown (text ++ closing_text 1) [] known (All-nil IsKnown))
+IsAnswer-known text datagrams short known (_, AreCut.cut _ _ long _, are) = absurd (omega (arith, short, long))
+
+word_short : (reason : Reason) → length (reason_word reason) ≤ 7
+word_short reasons.Long = omega arith
+word_short reasons.Word = omega arith
+word_short reasons.Late = omega arith
+word_short reasons.Twice = omega arith
+word_short reasons.Count = omega arith
+word_short reasons.Number = omega arith
+word_short reasons.Hex = omega arith
+word_short reasons.Address = omega arith
+word_short reasons.Peer = omega arith
+word_short reasons.Name = omega arith
+word_short reasons.Mode = omega arith
+word_short reasons.Group = omega arith
+word_short reasons.Range = omega arith
+word_short reasons.Missing = omega arith
+
+pub bad_short : (reason : Reason) → length (bad_text reason) ≤ 1376
+bad_short reason = omega (arith, word_short reason, length-append (reason_word reason) (10 ∷ []))
+
+-- the line that closes an answer is known alone
+pub closing_known : is_answer ([] ++ closing_text 1) ≡ true
+unfolding closing_text
+closing_known = refl
 
 -- the pieces that were counted are those that were sent
 pub replied : (to : Peer) (text octets : List ℕ) (size count : ℕ) (before after : LinkSeen) → octets ≡ text ++ closing_text count → size ≡ length text

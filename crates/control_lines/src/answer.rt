@@ -1,9 +1,10 @@
 //! Answers to control lines, cut into datagrams.
 
-ghost use Rattle.std.specs.Prelude.{◌≡◌, ◌≤◌, ◌<◌, ◌+◌, ◌^◌, ◌++◌, ℕ, List, All, length, take, drop, OnOk, OnErr};
+ghost use Rattle.std.specs.Prelude.{◌≡◌, ◌≤◌, ◌<◌, ◌+◌, ◌^◌, ◌++◌, ℕ, List, [], All, length, take, drop, IsTrue, OnOk, OnErr};
 ghost use Rattle.std.specs.List.{concat};
 ghost use Rattle.amt_ports.specs.Devices.{link_at};
 ghost use Rattle.script_lines.specs.Texts.{BeginsWith, closing_text};
+ghost use Rattle.script_lines.specs.declared.reason.Reason.{Reason as ReasonValue};
 ghost use Rattle.control_lines.specs.{Answer.{AreCut, HasReplied, HasSentTo, IsAnswer, bad_text, closed, is_answer, piece_length}};
 
 use amt_ports::Link;
@@ -130,4 +131,12 @@ pub fn answers_are_whole()
         → concat datagrams ≡ text ++ closing_text (length datagrams) }
     ensures one { (text : List ℕ) (datagrams others : List (List ℕ)) → IsAnswer text datagrams
         → IsAnswer text others → datagrams ≡ others }
+{}
+
+/// What answers a bad line, or one of which nothing is said, is known as an answer, so no control answers it in turn.
+pub fn short_answers_are_known()
+    ensures bad { (reason : ReasonValue) (datagrams : List (List ℕ)) → IsAnswer (bad_text reason) datagrams
+        → All (λ datagram. IsTrue (is_answer datagram)) datagrams }
+    ensures none { (datagrams : List (List ℕ)) → IsAnswer [] datagrams
+        → All (λ datagram. IsTrue (is_answer datagram)) datagrams }
 {}

@@ -2,6 +2,8 @@ pub mod Lawful
 mod Beginning
 mod FewSends
 mod Lines
+mod NextDue
+mod OutcomeCounts
 mod Running
 mod Sending
 mod Stages

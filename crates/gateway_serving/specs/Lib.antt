@@ -2,6 +2,8 @@ pub mod Counting
 pub mod Courses
 pub mod Devices
 pub mod Events
+pub mod OutcomeWords
+pub mod Replies
 pub mod Reports
 pub mod Runs
 pub mod Sending

@@ -9,11 +9,15 @@
 
 mod counts;
 mod course;
+mod numbers;
+mod outcomes;
+mod replying;
 mod served;
 mod server;
 mod serving;
 mod settings;
 
+pub use outcomes::outcome_words_are_those_of_replays;
 pub use served::GatewayServed;
 pub use serving::serve_gateway;
 pub use settings::settings_of;
