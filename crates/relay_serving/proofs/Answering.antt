@@ -1,6 +1,6 @@
 -- The answers to events, and to more of them.
-use Rattle.std.{proofs.{Common.{◌≡◌, ℕ, ◌+◌, List, [], ◌∷◌, ◌++◌, length, refl, sym, ap, subst, ◌∙◌, append_assoc, append-nil, arith, length-append}, lemmas.List.Concat.{flat_map-append}}, specs.{Prelude.{Option}, List.{flat_map}}}
-use Rattle.amt_ports.{specs.{Sends.{TriedSend}, Devices.{LinkSeen}, Tried.{HasTried}}, proofs.Trying.{HasTried-none, HasTried-then}}
+use Rattle.std.{proofs.{Common.{◌≡◌, ℕ, ◌+◌, List, [], ◌∷◌, ◌++◌, length, refl, sym, ap, subst, ◌∙◌, append_assoc, append-nil, arith, length-append, cond, not, map}, lemmas.List.{length-map, map-append, Concat.{flat_map-append}, Sums.{sum_by-append}}}, specs.{Prelude.{Option}, List.{flat_map}}}
+use Rattle.amt_ports.{specs.{Sends.{TriedSend, datagram_of}, Devices.{LinkSeen}, Tried.{HasTried}}, proofs.{Told.{AppendsAll-then}, Trying.{HasTried-none, HasTried-then}}}
 use Rattle.amt_values.specs.declared.peer.Peer.{Peer}
 use Rattle.response_mac.specs.declared.secret.Secret.{Secret}
 use Rattle.relay_machine.specs.{Courses.{each_after}, declared.{event.Event.{Event}, settings.Settings.{Settings}}}
@@ -31,17 +31,40 @@ as_many_then more missed then_more then_missed first second all is then both = o
 pub no_more : (number : ℕ) → number ≡ number + 0
 no_more number = omega arith
 
--- answers, and then others
-pub HasAnswered-then : (link now later : LinkSeen) (counts counts_now counts_later : Counts) (wanted others : List (Peer × List ℕ))
-    → HasAnswered link now counts counts_now wanted → HasAnswered now later counts_now counts_later others → HasAnswered link later counts counts_later (wanted ++ others)
-HasAnswered-then link now later counts counts_now counts_later wanted others first second = record {
-  more = first.more + second.more;
-  missed = first.missed + second.missed;
-  sent_are = sum_then counts.sent counts_now.sent counts_later.sent first.more second.more first.sent_are second.sent_are;
-  unsent_are = sum_then counts.unsent counts_now.unsent counts_later.unsent first.missed second.missed first.unsent_are second.unsent_are;
-  as_many = as_many_then first.more first.missed second.more second.missed (length wanted) (length others) (length (wanted ++ others)) first.as_many second.as_many (length-append wanted others);
-  tried = HasTried-then link.tried now.tried later.tried link.send_faults now.send_faults later.send_faults wanted others first.more first.missed second.more second.missed first.tried second.tried;
-}
+-- answers, and then others, by the sends of both
+pub answered_then : (link now later : LinkSeen) (counts counts_now counts_later : Counts) (wanted others all : List (Peer × List ℕ))
+    → (first : HasAnswered link now counts counts_now wanted) → (second : HasAnswered now later counts_now counts_later others) → wanted ++ others ≡ all
+    → (both : HasAnswered link later counts counts_later all) × (both.tried.sends ≡ first.tried.sends ++ second.tried.sends)
+answered_then link now later counts counts_now counts_later wanted others all first second is =
+    let one = first.tried in
+    let other = second.tried in
+    let taken = sum_by-append (λ (send : TriedSend). cond send.sent 1 0) one.sends other.sends in
+    let missed = sum_by-append (λ (send : TriedSend). cond (not send.sent) 1 0) one.sends other.sends in
+    let tried = HasTried-then link.tried now.tried later.tried link.send_faults now.send_faults later.send_faults wanted others first.more first.missed second.more second.missed one other in (
+      record {
+        more = first.more + second.more;
+        missed = first.missed + second.missed;
+        sent_are = sum_then counts.sent counts_now.sent counts_later.sent first.more second.more first.sent_are second.sent_are;
+        unsent_are = sum_then counts.unsent counts_now.unsent counts_later.unsent first.missed second.missed first.unsent_are second.unsent_are;
+        as_many = as_many_then first.more first.missed second.more second.missed (length wanted) (length others) (length all) first.as_many second.as_many (ap length (sym is) ∙ length-append wanted others);
+        tried = record {
+          sends = one.sends ++ other.sends;
+          exactly = map-append datagram_of one.sends other.sends ∙ (λ i. one.exactly i ++ other.exactly i) ∙ is;
+          appended = AppendsAll-then link.tried now.tried later.tried one.sends other.sends one.appended other.appended;
+          sent_is = omega (arith, taken, one.sent_is, other.sent_is);
+          unsent_is = omega (arith, missed, one.unsent_is, other.unsent_is);
+          later = tried.later;
+          cause = tried.cause;
+          quiet = tried.quiet;
+          tells = tried.tells;
+        };
+      },
+      refl,
+    )
+
+-- one send an answer
+pub as_many_sends : (link now : LinkSeen) (counts counts' : Counts) (wanted : List (Peer × List ℕ)) (answered : HasAnswered link now counts counts' wanted) → length wanted ≡ length answered.tried.sends
+as_many_sends link now counts counts' wanted answered = sym (ap length answered.tried.exactly) ∙ length-map answered.tried.sends datagram_of
 
 -- nothing was sent
 pub HasAnswered-none : (link now : LinkSeen) (counts : Counts) → now.tried ≡ link.tried → now.send_faults ≡ link.send_faults → HasAnswered link now counts counts []

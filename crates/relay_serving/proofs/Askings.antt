@@ -2,7 +2,7 @@
 use Rattle.std.{proofs.{Common.{◌≡◌, ℕ, ◌+◌, ◌≤◌, ◌<◌, Bool, true, false, ◌||◌, List, [], ◌∷◌, ◌++◌, length, map, refl, sym, subst, ◌∙◌, append-nil, arith, length-append}, lemmas.{List.{Folds.{list_any-append}, Sums.{count_by-le-length}}}}, specs.{Prelude.{IfErr, IfOk, Option, None, Some, Result, Ok, Err}, List.{list_any}}}
 use Rattle.amt_ports.{specs.{Devices.{LinkSeen}, Sends.{TriedSend}, Told.{Answers, Appends}, Tried.{HasTried}, declared.{link.LinkAnswer.{LinkAnswer, TheVariants.{Datagram as LineCame, Closed as LinkClosed}}, out_link.OutLink.{Ghosts}}}}
 use Rattle.amt_values.specs.{Conditions.{First}, declared.peer.Peer.{Peer}}
-use Rattle.control_lines.specs.{Answer.{HasReplied, sent_to}, Asking.{Asks, Fails, line_of, order_of_reasons}, declared.asking.Asking.{Asking}}
+use Rattle.control_lines.specs.{Answer.{HasReplied, is_answer, sent_to}, Asking.{Asks, Fails, line_of, order_of_reasons}, declared.asking.Asking.{Asking}}
 use Rattle.response_mac.specs.declared.secret.Secret.{Secret}
 use Rattle.script_lines.specs.declared.reason.Reason.{Reason}
 use Rattle.relay_machine.specs.declared.settings.Settings.{Settings}
@@ -16,6 +16,9 @@ is_read line (Ok asking) found reason = found
 is_read line (Err cause) found reason = reason
 
 -- an answer, where nothing was tried before
+untried_since : (link now after : LinkSeen) → IsUntried link now → IsUntried now after → IsUntried link after
+untried_since link now after same then = record { same_tried = then.same_tried ∙ same.same_tried; same_faults = then.same_faults ∙ same.same_faults }
+
 replied_since : (to : Peer) (text : List ℕ) (link now after : LinkSeen) → IsUntried link now → HasReplied to text now after → HasReplied to text link after
 replied_since to text link now after same replied = record {
   datagrams = replied.datagrams;
@@ -23,14 +26,14 @@ replied_since to text link now after same replied = record {
   tried = record {
     sent = replied.tried.sent;
     unsent = replied.tried.unsent;
-    tried = subst (λ (tried : Option (List TriedSend)). HasTried tried after.tried link.send_faults after.send_faults (map (sent_to to) replied.datagrams) replied.tried.sent replied.tried.unsent) same.same_tried
-        (subst (λ (faults : ℕ). HasTried now.tried after.tried faults after.send_faults (map (sent_to to) replied.datagrams) replied.tried.sent replied.tried.unsent) same.same_faults replied.tried.tried);
+    tried = subst (λ (at : Option (List TriedSend) × ℕ). HasTried at.0 after.tried at.1 after.send_faults (map (sent_to to) replied.datagrams) replied.tried.sent replied.tried.unsent) (λ i. (same.same_tried i, same.same_faults i)) replied.tried.tried;
   };
 }
 
-answered_since : (starved : Bool) (to : Peer) (text : List ℕ) (link now after : LinkSeen) → IsUntried link now → HasAnswer starved to text now after → HasAnswer starved to text link after
-answered_since true to text link now after same answer = record { same_tried = answer.same_tried ∙ same.same_tried; same_faults = answer.same_faults ∙ same.same_faults }
-answered_since false to text link now after same answer = replied_since to text link now after same answer
+answered_since : (itself starved : Bool) (to : Peer) (text : List ℕ) (link now after : LinkSeen) → IsUntried link now → HasAnswer itself starved to text now after → HasAnswer itself starved to text link after
+answered_since true starved to text link now after same answer = (answer.0, untried_since link now after same answer.1)
+answered_since false true to text link now after same answer = untried_since link now after same answer
+answered_since false false to text link now after same answer = replied_since to text link now after same answer
 
 untried_none : (link : LinkSeen) → IsUntried link link
 untried_none link = record { same_tried = refl; same_faults = refl }
@@ -54,45 +57,6 @@ end_after Shut lines early few = few
 end_after Failed lines early few = few
 
 module _ {O : Type 0} {g : Ghosts O} {T : Type 0} where
-  -- the answer was tried
-  pub line_sent : (workers turns : ℕ) (before after : Server O T g) (from : Peer) (line : List ℕ) (control control' : ControlSeen) (reading : Result Asking Reason) (copied : CopyCount) (stops : Bool) → after ≡ before
-      → IsRead line reading → Appends control.copies control'.copies copied
-      → HasReplied from (reply_text (settings_in before) (first_in before) workers (standing_in turns before) reading copied) control.link control'.link
-      → control'.link.coming ≡ control.link.coming → control'.link.receive_faults ≡ control.link.receive_faults → control'.wait ≡ control.wait → stops ≡ is_stop reading
-      → LineSo workers turns before after from line control control' stops
-  line_sent workers turns before after from line control control' reading copied stops same read counted answer coming calm wait stops_is = record {
-    reading = reading;
-    copied = copied;
-    starved = false;
-    read = read;
-    counted = counted;
-    answer = answer;
-    same_coming = coming;
-    calm = calm;
-    same_wait = wait;
-    stops_is = stops_is;
-    does = subst (ServerDoes (refusing 0) before) (sym same) (λ around. Does-none (at_server around before));
-  }
-
-  -- or memory refused it
-  pub line_refused : (workers turns : ℕ) (before after : Server O T g) (from : Peer) (line : List ℕ) (control control' : ControlSeen) (reading : Result Asking Reason) (copied : CopyCount) (stops : Bool) → ServerDoes starving before after
-      → IsRead line reading → Appends control.copies control'.copies copied → IsUntried control.link control'.link
-      → control'.link.coming ≡ control.link.coming → control'.link.receive_faults ≡ control.link.receive_faults → control'.wait ≡ control.wait → stops ≡ is_stop reading
-      → LineSo workers turns before after from line control control' stops
-  line_refused workers turns before after from line control control' reading copied stops starves read counted answer coming calm wait stops_is = record {
-    reading = reading;
-    copied = copied;
-    starved = true;
-    read = read;
-    counted = counted;
-    answer = answer;
-    same_coming = coming;
-    calm = calm;
-    same_wait = wait;
-    stops_is = stops_is;
-    does = starves;
-  }
-
   -- a line came, and was answered
   pub next_line : (workers turns : ℕ) (before after : Server O T g) (control now control' : ControlSeen) (from : Peer) (line : List ℕ) (stops : Bool)
       → Answers LinkClosed control.link.coming now.link.coming (LineCame from line) → IsUntried control.link now.link → now.copies ≡ control.copies
@@ -105,7 +69,7 @@ module _ {O : Type 0} {g : Ghosts O} {T : Type 0} where
           came = subst (λ (coming : Option (List LinkAnswer)). Answers LinkClosed control.link.coming coming (LineCame from line)) (sym said.same_coming) came;
           read = said.read;
           counted = subst (λ (told : Option (List CopyCount)). Appends told control'.copies said.copied) copies said.counted;
-          answer = answered_since said.starved from _ control.link now.link control'.link untried said.answer;
+          answer = answered_since (is_answer line) said.starved from _ control.link now.link control'.link untried said.answer;
           calm = said.calm ∙ calm;
           unwaited = omega (arith, waited, wait);
         },
@@ -117,22 +81,25 @@ module _ {O : Type 0} {g : Ghosts O} {T : Type 0} where
   pub next_none : (workers turns : ℕ) (server : Server O T g) (control control' : ControlSeen) (ending : RoundEnd) → IsEnd ending 0 → EndsRound ending control control' → NextSo workers turns server server control control' None
   next_none workers turns server control control' ending early ends = (ending, early, ends, λ around. Does-none (at_server around server))
 
-  -- where memory refused so many answers
-  pub stands_since : (number turns : ℕ) (before after : Server O T g) → ServerDoes (refusing number) before after → standing_in turns after ≡ refusing_more number (standing_in turns before)
-  stands_since number turns before after refuses =
-      let does = refuses (alone before) in
-      let answered = does.answered in
+  -- where memory refused this number of answers, the link sent nothing
+  pub same_sends : (number : ℕ) (before after : Server O T g) → ServerDoes (refusing number) before after → ((counts_in after).sent ≡ (counts_in before).sent) × ((counts_in after).unsent ≡ (counts_in before).unsent)
+  same_sends number before after refuses =
+      let answered = (refuses (alone before)).answered in
       let few : answered.more + answered.missed ≡ 0 = answered.as_many in
       let sent_are = answered.sent_are in
       let unsent_are = answered.unsent_are in
-      let sent : (counts_in after).sent ≡ (counts_in before).sent = omega (arith, few, sent_are) in
-      let unsent : (counts_in after).unsent ≡ (counts_in before).unsent = omega (arith, few, unsent_are) in
+      (omega (arith, few, sent_are), omega (arith, few, unsent_are))
+
+  stands_since : (number turns : ℕ) (before after : Server O T g) → ServerDoes (refusing number) before after → standing_in turns after ≡ refusing_more number (standing_in turns before)
+  stands_since number turns before after refuses =
+      let does = refuses (alone before) in
+      let sends = same_sends number before after refuses in
       let late_are = does.refused.late_are in
       let late : (counts_in after).late ≡ (counts_in before).late = late_are ∙ sym (no_more _) in
       let happened = does.happens.happened ∙ append-nil (happenings_in before) in
-      λ i. record { happenings = happened i; turns = turns; sent = sent i; unsent = unsent i; starved = does.refused.starved_are i; late = late i }
+      λ i. record { happenings = happened i; turns = turns; sent = sends.0 i; unsent = sends.1 i; starved = does.refused.starved_are i; late = late i }
 
-  -- so many lines of a turn, all answered
+  -- some lines of a turn, all answered
   pub record IsAsking (workers turns : ℕ) (before now : Server O T g) (control control' : ControlSeen) (count : ℕ) (stops : Bool) : Type 0 where
     pub asked : List Asked
     pub answered : AreAnswered (settings_in before) (first_in before) workers (standing_in turns before) control asked control'

@@ -11,6 +11,7 @@ pub mod OutcomeCounts
 pub mod Owed
 pub mod OwedLate
 pub mod Packets
+pub mod Rounds
 pub mod Running
 pub mod SlotsServed
 pub mod Started

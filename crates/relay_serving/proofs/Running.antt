@@ -1,11 +1,12 @@
 -- What the turns of a run come to together.
-use Rattle.std.{proofs.{Common.{◌≡◌, ℕ, ◌+◌, ◌*◌, ◌≤◌, ◌<◌, cond, Bool, true, false, ◌||◌, append-nil, List, [], ◌∷◌, ◌++◌, length, map, None, Err, Ok, Some, refl, sym, ap, subst, ◌∙◌, append_assoc, arith, length-append}, lemmas.{Grind.{flat_map-append}, List.{map-append, Folds.{list_any-append}, Sums.{count_by-le-length, sum_by-append}}}}, specs.{Prelude.{Option, Result}, List.{sum_by}}}
-use Rattle.amt_ports.specs.{Answers.{Taken}, Causes.{Rose}, EndCauses.{IsCauseOf, IsCausedBy}, declared.{feed.FeedAnswer.{FeedAnswer}, link.LinkAnswer.{LinkAnswer}, out_link.OutLink.{Ghosts}, end.End.{End, TheVariants.{Turns, LinkFault, FeedFault, WordsFault}}}}
+use Rattle.std.{proofs.{Common.{◌≡◌, ℕ, ◌+◌, ◌*◌, ◌≤◌, ◌<◌, cond, Bool, true, false, ◌||◌, append-nil, List, [], ◌∷◌, ◌++◌, length, map, take, None, Err, Ok, Some, refl, sym, ap, subst, ◌∙◌, append_assoc, arith, length-append}, lemmas.{Grind.{flat_map-append}, List.{map-append, take_all, Folds.{list_any-append}, Sums.{count_by-le-length, sum_by-append}}}}, specs.{Prelude.{Option, Result}, List.{sum_by}}}
+use Rattle.amt_values.specs.declared.peer.Peer.{Peer}
+use Rattle.amt_ports.specs.{Answers.{Taken}, Sends.{TriedSend, sent_count, unsent_count}, Causes.{Rose}, EndCauses.{IsCauseOf, IsCausedBy}, declared.{feed.FeedAnswer.{FeedAnswer}, link.LinkAnswer.{LinkAnswer}, out_link.OutLink.{Ghosts}, end.End.{End, TheVariants.{Turns, LinkFault, FeedFault, WordsFault}}}}
 use Rattle.response_mac.specs.declared.secret.Secret.{Secret}
 use Rattle.relay_machine.specs.declared.settings.Settings.{Settings}
-use Rattle.relay_serving.specs.{Asked.{Asked, Failed, Full, IsEnd, IsRound, Round, RoundEnd, Shut, Silent, is_stopped, refused_in}, AskingServers.{AsksSo, in_turns_refusing, refusing, standing_in}, Controls.{ControlSeen}, Replies.{Standing}, Rounds.{ControlServes, no_round, round_more, standing_after}, Runs.{GoOn, HasDone, all_turns, stopped}, Sending.{answers_after}}
-use Rattle.relay_serving.specs.{Counting.{is_late, no_counts, starved_in}, Devices.{Devices}, Events.{happenings_from, happenings_of_turn}, Happenings.{Happening, events_among}, Servers.{counts_in, first_in, happenings_in, settings_in, tally_in}, Serving.{AreOwedLate}, Traces.{Does, ServerDoes, World, in_turns}, Turning.{RunsSo, TurnsSo}, Turns.{AreWhole, IsWhole, Progress, Turn, after_turn, no_progress}}
-use Rattle.relay_serving.{specs.declared.{counts.Counts.{Counts}, plan.ServePlan.{ServePlan}, server.Server.{Server}}, proofs.{Answering.{no_more}, OwedLate.{AreOwedLate-none, AreOwedLate-then, owed_after}, Stages.{no_error}, Traces.{Does-at, Does-none, Does-then}}}
+use Rattle.relay_serving.specs.{Asked.{Asked, Failed, Full, IsEnd, IsRound, Round, RoundEnd, Shut, Silent, is_stopped, refused_in}, AskingServers.{AsksSo, in_turns_refusing, refusing, standing_in}, Controls.{ControlSeen}, Replies.{Standing}, Rounds.{ControlServes, round_more, standing_after}, Runs.{GoOn, HasDone, all_turns, stopped}, Sending.{answers_after}}
+use Rattle.relay_serving.specs.{Counting.{HasAnswered, is_late, no_counts, starved_in}, Devices.{Devices}, Events.{happenings_from, happenings_of_turn}, Happenings.{Happening, events_among}, Servers.{counts_in, first_in, happenings_in, settings_in, tally_in}, Serving.{AreOwedLate}, Traces.{Does, ServerDoes, World, in_turns}, Turning.{RunsSo, TurnsSo}, Turns.{AreWhole, IsWhole, Progress, Turn, after_turn, no_progress}}
+use Rattle.relay_serving.{specs.declared.{counts.Counts.{Counts}, plan.ServePlan.{ServePlan}, server.Server.{Server}}, proofs.{Answering.{HasAnswered-none, answered_then, answers_after-append, as_many_sends, no_more}, Askings.{same_sends}, Happenings.{events_among-append}, OwedLate.{AreOwedLate-none, AreOwedLate-then, owed_after}, Rounds.{control_unasked, serves_further}, Stages.{no_error}, Traces.{Does-at, Does-none, Does-then}}}
 
 -- one whole turn more
 pub AreWhole-more : (rotate : ℕ) (progress last : Progress) (turns : List Turn) (turn : Turn) → AreWhole rotate progress turns last → IsWhole rotate last turn
@@ -72,11 +73,6 @@ goes_more true rounds new first second = (
   second.4,
 )
 
--- nothing was asked yet
-pub control_unasked : (settings : Settings) (first : Secret) (workers : ℕ) (control : Option ControlSeen) → ControlServes settings first workers control control [] []
-control_unasked settings first workers None = refl
-control_unasked settings first workers (Some control) = no_round
-
 calm_end : (cause : End) (first last : ℕ) → (Turns ≡ cause → ⊥) → last ≡ first → IsCauseOf Turns cause first last
 calm_end cause first last other same = ((λ is. absurd (other is)), (λ _. same))
 
@@ -97,50 +93,50 @@ module _ {O : Type 0} {g : Ghosts O} {T : Type 0} where
       Does-at (Does-then first second) (append-nil _) (append-nil _) (append-nil _) (append-nil _) (append-nil _) (after_all (sum_by starved_in turns) refused number) (sym (no_more _)) (omega arith) (omega arith)
 
   -- what was asked after a turn, in one round or in none
-  pub record HasAsked (settings : Settings) (first : Secret) (workers : ℕ) (control control' : Option ControlSeen) (turns : List Turn) (rounds : List Round) (before after : Server O T g) (stops : Bool) : Type 0 where
+  pub record HasAsked (settings : Settings) (first : Secret) (workers : ℕ) (sends : List TriedSend) (control control' : Option ControlSeen) (turns : List Turn) (rounds : List Round) (before after : Server O T g) (stops : Bool) : Type 0 where
     pub new : List Round
     pub does : ServerDoes (refusing (sum_by refused_in new)) before after
     pub few : sum_by refused_in new ≤ 64
     pub goes : GoesOn stops new
-    pub asked : ControlServes settings first workers control control' turns (rounds ++ new)
+    pub asked : ControlServes settings first workers sends control control' turns (rounds ++ new)
 
-  has_asked : (settings : Settings) (first : Secret) (workers done : ℕ) (control now control' : Option ControlSeen) (turns : List Turn) (turn : Turn) (rounds : List Round) (before after : Server O T g) (stops : Bool) (sent unsent : ℕ)
-      → ControlServes settings first workers control now turns rounds → AsksSo workers done before after now control' stops
-      → settings_in before ≡ settings → first_in before ≡ first → sent + unsent ≡ length (answers_after settings first [] (events_among (happenings_from 0 (turns ++ turn ∷ []))))
-      → standing_in done before ≡ standing_after (turns ++ turn ∷ []) sent unsent (sum_by refused_in rounds)
-      → HasAsked settings first workers control control' (turns ++ turn ∷ []) rounds before after stops
-  has_asked settings first workers done None None None turns turn rounds before after stops sent unsent served asks same same_first answers stands = record {
+  has_asked : (settings : Settings) (first : Secret) (workers done : ℕ) (sends : List TriedSend) (control now control' : Option ControlSeen) (turns : List Turn) (turn : Turn) (rounds : List Round) (before after : Server O T g) (stops : Bool)
+      → ControlServes settings first workers sends control now turns rounds → AsksSo workers done before after now control' stops → settings_in before ≡ settings → first_in before ≡ first
+      → standing_in done before ≡ standing_after settings first workers sends (turns ++ turn ∷ []) (sum_by refused_in rounds)
+      → HasAsked settings first workers sends control control' (turns ++ turn ∷ []) rounds before after stops
+  has_asked settings first workers done sends None None None turns turn rounds before after stops served asks same same_first stands = record {
     new = [];
     does = asks.1;
     few = omega arith;
     goes = subst (λ (one : Bool). GoesOn one []) (sym asks.0) refl;
     asked = append-nil rounds ∙ served;
   }
-  has_asked settings first workers done None None (Some last) turns turn rounds before after stops sent unsent served asks same same_first answers stands = absurd asks
-  has_asked settings first workers done None (Some now) control' turns turn rounds before after stops sent unsent served asks same same_first answers stands = absurd served
-  has_asked settings first workers done (Some start) None control' turns turn rounds before after stops sent unsent served asks same same_first answers stands = absurd served
-  has_asked settings first workers done (Some start) (Some now) None turns turn rounds before after stops sent unsent served asks same same_first answers stands = absurd asks
-  has_asked settings first workers done (Some start) (Some now) (Some last) turns turn rounds before after stops sent unsent served asks same same_first answers stands =
+  has_asked settings first workers done sends None None (Some last) turns turn rounds before after stops served asks same same_first stands = absurd asks
+  has_asked settings first workers done sends None (Some now) control' turns turn rounds before after stops served asks same same_first stands = absurd served
+  has_asked settings first workers done sends (Some start) None control' turns turn rounds before after stops served asks same same_first stands = absurd served
+  has_asked settings first workers done sends (Some start) (Some now) None turns turn rounds before after stops served asks same same_first stands = absurd asks
+  has_asked settings first workers done sends (Some start) (Some now) (Some last) turns turn rounds before after stops served asks same same_first stands =
       let alone_is : sum_by refused_in (asks.round ∷ []) ≡ refused_in asks.round = omega arith in
       let short = lines_few asks.round.ending (length asks.round.asked) asks.is_round.is_end in record {
         new = asks.round ∷ [];
         does = subst (λ (number : ℕ). ServerDoes (refusing number) before after) (sym alone_is) asks.does;
         few = omega (arith, alone_is, short, count_by-le-length (λ (one : Asked). one.starved) asks.round.asked);
         goes = goes_one stops asks.round asks.stops_is;
-        asked = round_more turns rounds now served turn asks.round last (record {
-          sent = sent;
-          unsent = unsent;
-          all_answers = answers;
-          is_round = subst (λ (at : Settings × Secret × Standing). IsRound at.0 at.1 workers at.2 asks.round now last) (λ i. (same i, same_first i, stands i)) asks.is_round;
-        });
+        asked = round_more turns rounds now served turn asks.round last
+            (subst (λ (at : Settings × Secret × Standing). IsRound at.0 at.1 workers at.2 asks.round now last) (λ i. (same i, same_first i, stands i)) asks.is_round);
       }
 
-  -- a run after so many whole turns, which goes on or not
+  -- the answers to the datagrams of turns
+  abbrev answers_in : Server O T g → List Turn → List (Peer × List ℕ)
+  answers_in server turns = answers_after (settings_in server) (first_in server) [] (events_among (happenings_from 0 turns))
+
+  -- a run after its first turns, all whole, which goes on or not
   pub record IsRunning (rotate workers : ℕ) (progress : Progress) (before now : World O g T) (control control' : Option ControlSeen) (done : ℕ) (stops : Bool) : Type 0 where
     pub turns : List Turn
     pub rounds : List Round
     pub does : Does (in_turns_refusing 0 turns (sum_by refused_in rounds)) before now
-    pub asked : ControlServes (settings_in before.server) (first_in before.server) workers control control' turns rounds
+    pub answered : HasAnswered before.devices.link now.devices.link (counts_in before.server) (counts_in now.server) (answers_in before.server turns)
+    pub asked : ControlServes (settings_in before.server) (first_in before.server) workers answered.tried.sends control control' turns rounds
     pub goes : GoesOn stops rounds
     pub fresh : happenings_in before.server ≡ []
     pub uncounted : counts_in before.server ≡ no_counts
@@ -158,11 +154,13 @@ module _ {O : Type 0} {g : Ghosts O} {T : Type 0} where
       let starved = ap (λ (counts : Counts). counts.starved) uncounted in
       let late = ap (λ (counts : Counts). counts.late) uncounted in
       let packets = ap (λ (counts : Counts). counts.packets) uncounted in
+      let unsent = HasAnswered-none seen.devices.link seen.devices.link (counts_in seen.server) refl refl in
       record {
         turns = [];
         rounds = [];
         does = Does-none seen;
-        asked = control_unasked (settings_in seen.server) (first_in seen.server) workers control;
+        answered = unsent;
+        asked = control_unasked (settings_in seen.server) (first_in seen.server) workers unsent.tried.sends control;
         goes = refl;
         fresh = fresh;
         uncounted = uncounted;
@@ -185,26 +183,46 @@ module _ {O : Type 0} {g : Ghosts O} {T : Type 0} where
         AreOwedLate-then (settings_in before.server) (first_in before.server) run.turns next.turn run.late_owed
         (λ refused. owed_after before.server after.server (run.turns ++ next.turn ∷ []) run.fresh does_more.happens (next.owed refused))
 
+    -- the answers, and with them what was asked before
+    answered_more : (all : HasAnswered before.devices.link after.devices.link (counts_in before.server) (counts_in after.server) (answers_in before.server (run.turns ++ next.turn ∷ [])))
+        × ControlServes (settings_in before.server) (first_in before.server) workers all.tried.sends control control' run.turns run.rounds
+    answered_more =
+        let settings = settings_in before.server in
+        let first = first_in before.server in
+        let past = happenings_from 0 run.turns in
+        let more = happenings_from progress.latest (next.turn ∷ []) in
+        let same = run.does.happens.same in
+        let happened : happenings_in now.server ≡ past = run.does.happens.happened ∙ ap (λ (list : List Happening). list ++ past) run.fresh in
+        let wanted : answers_in before.server run.turns ++ answers_after (settings_in now.server) (first_in now.server) (events_among (happenings_in now.server)) (events_among more) ≡ answers_in before.server (run.turns ++ next.turn ∷ []) =
+        (λ i. answers_in before.server run.turns ++ answers_after (same.same_settings i) (same.same_first i) (events_among (happened i)) (events_among more))
+        ∙ sym (answers_after-append settings first [] (events_among past) (events_among more))
+        ∙ ap (answers_after settings first []) (sym (events_among-append past more) ∙ ap events_among (sym (happenings_from-more rotate no_progress progress run.turns next.turn run.are_whole))) in
+        let both = answered_then _ _ _ _ _ _ _ _ _ run.answered next.does.answered wanted in (
+          both.0,
+          subst (λ (sends : List TriedSend). ControlServes settings first workers sends control control' run.turns run.rounds) (sym both.1)
+          (serves_further settings first workers run.answered.tried.sends next.does.answered.tried.sends control control' run.turns run.rounds (as_many_sends _ _ _ _ _ run.answered) run.asked),
+        )
+
     -- where it stands then
-    stands_more : standing_in (done + 1) after.server ≡ standing_after (run.turns ++ next.turn ∷ []) does_more.answered.more does_more.answered.missed (sum_by refused_in run.rounds)
+    stands_more : standing_in (done + 1) after.server ≡ standing_after (settings_in before.server) (first_in before.server) workers answered_more.0.tried.sends (run.turns ++ next.turn ∷ []) (sum_by refused_in run.rounds)
     stands_more =
+        let all = answered_more.0 in
         let count : (number : Counts → ℕ) (more : ℕ) → number no_counts ≡ 0 → number (counts_in after.server) ≡ number (counts_in before.server) + more → number (counts_in after.server) ≡ more =
         λ number more none is. let nothing_yet = ap number run.uncounted in omega (arith, is, none, nothing_yet) in
         let happened = does_more.happens.happened ∙ ap (λ (list : List Happening). list ++ happenings_from 0 (run.turns ++ next.turn ∷ [])) run.fresh in
         let turns_are = ap (λ (n : ℕ). n + 1) run.done_is ∙ sym (length-append run.turns (next.turn ∷ [])) in
-        let sent = count (λ (counts : Counts). counts.sent) does_more.answered.more refl does_more.answered.sent_are in
-        let unsent = count (λ (counts : Counts). counts.unsent) does_more.answered.missed refl does_more.answered.unsent_are in
+        let sends : take (length (answers_in before.server (run.turns ++ next.turn ∷ []))) all.tried.sends ≡ all.tried.sends = take_all _ all.tried.sends (omega (arith, as_many_sends _ _ _ _ _ all)) in
+        let sent = count (λ (counts : Counts). counts.sent) all.more refl all.sent_are ∙ all.tried.sent_is ∙ ap sent_count (sym sends) in
+        let unsent = count (λ (counts : Counts). counts.unsent) all.missed refl all.unsent_are ∙ all.tried.unsent_is ∙ ap unsent_count (sym sends) in
         let starved = count (λ (counts : Counts). counts.starved) _ refl does_more.refused.starved_are in
         let late = count (λ (counts : Counts). counts.late) _ refl does_more.refused.late_are in
         λ i. record { happenings = happened i; turns = turns_are i; sent = sent i; unsent = unsent i; starved = starved i; late = late i }
 
     asked_more : (control'' : Option ControlSeen) (last : Server O T g) (stops : Bool) → AsksSo workers (done + 1) after.server last control' control'' stops
-        → HasAsked (settings_in before.server) (first_in before.server) workers control control'' (run.turns ++ next.turn ∷ []) run.rounds after.server last stops
+        → HasAsked (settings_in before.server) (first_in before.server) workers answered_more.0.tried.sends control control'' (run.turns ++ next.turn ∷ []) run.rounds after.server last stops
     asked_more control'' last stops asks =
-        has_asked (settings_in before.server) (first_in before.server) workers (done + 1) control control' control'' run.turns next.turn run.rounds after.server last stops does_more.answered.more does_more.answered.missed
-        run.asked asks does_more.happens.same.same_settings does_more.happens.same.same_first
-        (does_more.answered.as_many ∙ ap (λ (list : List Happening). length (answers_after (settings_in before.server) (first_in before.server) (events_among list) (events_among (happenings_from 0 (run.turns ++ next.turn ∷ []))))) run.fresh)
-        stands_more
+        has_asked (settings_in before.server) (first_in before.server) workers (done + 1) answered_more.0.tried.sends control control' control'' run.turns next.turn run.rounds after.server last stops
+        answered_more.1 asks does_more.happens.same.same_settings does_more.happens.same.same_first stands_more
 
   -- a whole turn more, and what was asked after it
   pub IsRunning-then : (rotate workers : ℕ) (progress progress' : Progress) (before now after : World O g T) (control control' control'' : Option ControlSeen) (done : ℕ) (last : Server O T g) (room : ℕ) (stops : Bool)
@@ -217,6 +235,8 @@ module _ {O : Type 0} {g : Ghosts O} {T : Type 0} where
       let turns = does_more rotate workers progress progress' before now after control control' done (Ok tt) run next in
       let has = asked_more rotate workers progress progress' before now after control control' done (Ok tt) run next control'' last stops asks in
       let refuses = has.does after in
+      let sends = same_sends (sum_by refused_in has.new) after.server last has.does in
+      let all_answers = (answered_more rotate workers progress progress' before now after control control' done (Ok tt) run next).0 in
       let few_refused = has.few in
       let few_then : tally_in last ≤ tally_in after.server + sum_by refused_in has.new = refuses.few in
       let packets_then : (counts_in last).packets ≤ (counts_in after.server).packets + 0 = refuses.few_packets in
@@ -227,6 +247,7 @@ module _ {O : Type 0} {g : Ghosts O} {T : Type 0} where
         turns = run.turns ++ next.turn ∷ [];
         rounds = run.rounds ++ has.new;
         does = subst (λ (octets : ℕ). Does (in_turns_refusing 0 (run.turns ++ next.turn ∷ []) (sum_by refused_in (run.rounds ++ has.new))) before (record after { server = last; room = octets })) (sym same_room) all_at;
+        answered = record { more = all_answers.more; missed = all_answers.missed; sent_are = sends.0 ∙ all_answers.sent_are; unsent_are = sends.1 ∙ all_answers.unsent_are; as_many = all_answers.as_many; tried = all_answers.tried };
         asked = has.asked;
         goes = goes_more stops run.rounds has.new run.goes has.goes;
         fresh = run.fresh;
@@ -252,6 +273,7 @@ module _ {O : Type 0} {g : Ghosts O} {T : Type 0} where
     last = progress;
     rounds = run.rounds;
     does = run.does;
+    answered = run.answered;
     asked = run.asked;
     causes = record { link = calm_end LinkFault _ _ (λ is. cc is) run.calm.link; feed = calm_end FeedFault _ _ (λ is. cc is) run.calm.feed; words = calm_end WordsFault _ _ (λ is. cc is) run.calm.words };
     late_owed = run.late_owed;
@@ -276,13 +298,15 @@ module _ {O : Type 0} {g : Ghosts O} {T : Type 0} where
   -- the run ended in a turn
   pub RunsSo-cut : (plan : ServePlan) (progress progress' : Progress) (before now after : World O g T) (control control' : Option ControlSeen) (done : ℕ) (end : End) → IsRunning plan.rotate_ms plan.workers progress before now control control' done false
       → TurnsSo plan.rotate_ms progress progress' now after (Err end) → done < plan.turns → RunsSo plan before after control control' end done
-  RunsSo-cut plan progress progress' before now after control control' done end run next few = record {
+  RunsSo-cut plan progress progress' before now after control control' done end run next few =
+      let answers = answered_more plan.rotate_ms plan.workers progress progress' before now after control control' done (Err end) run next in record {
     whole = run.turns;
     cut = Some next.turn;
     last = progress;
     rounds = run.rounds;
     does = does_more plan.rotate_ms plan.workers progress progress' before now after control control' done (Err end) run next;
-    asked = run.asked;
+    answered = answers.0;
+    asked = answers.1;
     causes = record {
       link = cause_then end LinkFault _ _ _ run.calm.link next.causes.link;
       feed = cause_then end FeedFault _ _ _ run.calm.feed next.causes.feed;

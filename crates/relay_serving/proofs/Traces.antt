@@ -4,7 +4,7 @@ use Rattle.amt_ports.{specs.{declared.{feed.FeedAnswer.{FeedAnswer, TheVariants.
 use Rattle.amt_values.specs.declared.peer.Peer.{Peer}
 use Rattle.relay_machine.specs.declared.{event.Event.{Event}, outcome.Outcome.{Outcome}}
 use Rattle.relay_serving.specs.{Counting.{HasAnswered, HasRefused, is_packet, with_outcome}, Devices.{Devices, devices_seen}, Events.{datagram_of, packet_of}, Happenings.{Happening, Took, events_among}, Sending.{answers_after}, Servers.{Happens, IsAsBefore, IsSameRun, counts_in, events_in, first_in, happenings_in, settings_in}}
-use Rattle.relay_serving.{specs.{Traces.{Does, LinkDoes, ServerDoes, Trace, World, and_then, at_feed, at_link, by_feed, by_link, nothing, world}, declared.{counts.Counts.{Counts}, server.Server.{Server}}}, proofs.{Answering.{HasAnswered-none, HasAnswered-then, answers_after-append, no_more, sum_then}, Happenings.{events_among-append}}}
+use Rattle.relay_serving.{specs.{Traces.{Does, LinkDoes, ServerDoes, Trace, World, and_then, at_feed, at_link, by_feed, by_link, nothing, world}, declared.{counts.Counts.{Counts}, server.Server.{Server}}}, proofs.{Answering.{HasAnswered-none, answered_then, answers_after-append, no_more, sum_then}, Happenings.{events_among-append}}}
 
 -- what is counted of a call that sends nothing
 pub record Adds (before after : Counts) (starved late packets : ℕ) : Type 0 where
@@ -56,8 +56,7 @@ module _ {O : Type 0} {g : Ghosts O} {T : Type 0} where
           happened = second.happens.happened ∙ ap (λ (list : List Happening). list ++ other.happened) first.happens.happened
               ∙ append_assoc (happenings_in before.server) one.happened other.happened;
         };
-        answered = subst (HasAnswered before.devices.link after.devices.link (counts_in before.server) (counts_in after.server)) wanted
-            (HasAnswered-then before.devices.link now.devices.link after.devices.link (counts_in before.server) (counts_in now.server) (counts_in after.server) _ _ first.answered second.answered);
+        answered = (answered_then before.devices.link now.devices.link after.devices.link (counts_in before.server) (counts_in now.server) (counts_in after.server) _ _ _ first.answered second.answered wanted).0;
         refused = record {
           starved_are = sum_then _ _ _ one.starved other.starved first.refused.starved_are second.refused.starved_are;
           late_are = sum_then _ _ _ one.late other.late first.refused.late_are second.refused.late_are;

@@ -16,7 +16,7 @@ use Rattle.relay_serving.specs.Sending.{answers_after, due_of, dues_after}
 use Rattle.relay_serving.specs.Serving.{AreOwedLate, ArePublished, IsOwedBy, OutsServed, Serves, StartsWorkers, one_lost, unused, used}
 use Rattle.relay_serving.specs.Servers.{events_in, first_in, happenings_in, owing_in, published_in, settings_in, slots_in, tally_in}
 use Rattle.relay_serving.specs.{Starting.{AreLeftBy, AreStarts, IsAtStart}, Traces.{world}, Turning.{RunsSo}, Turns.{Progress, Turn}, declared.counts.Counts.{Counts}}
-use Rattle.relay_serving.{specs.declared.{plan.{ServePlan.{ServePlan}, ServeReport.{ServeReport}}, server.{Server.{Server}, ending.Ending.{Ending}}}, proofs.{GivenOut.{jobs_count}, Owed.{is_prompt, owed_by}, OwedLate.{AreOwedLate-none}, Running.{control_unasked}, SlotsServed.{Slotted, all_inline, are_served, slotted}, Started.{starts_all, starts_none, starts_refused}, Together.{read_prefixes}}}
+use Rattle.relay_serving.{specs.declared.{plan.{ServePlan.{ServePlan}, ServeReport.{ServeReport}}, server.{Server.{Server}, ending.Ending.{Ending}}}, proofs.{GivenOut.{jobs_count}, Owed.{is_prompt, owed_by}, OwedLate.{AreOwedLate-none}, Rounds.{control_unasked}, SlotsServed.{Slotted, all_inline, are_served, slotted}, Started.{starts_all, starts_none, starts_refused}, Together.{read_prefixes}}}
 
 -- of a run without any turn
 abbrev unrun : List ℕ → Run
@@ -34,11 +34,11 @@ not_run settings plan control end first clock words words' link feed starts star
   words = subst (AppendsAll words.given words'.given) (sym (append-nil first)) drawn;
   link = refl;
   feed = refl;
-  asked = control_unasked settings (first_of (unrun first)) plan.workers control;
   started = started;
   link_sent = 0;
   link_unsent = 0;
   link_tried = HasTried-none link.tried link.send_faults;
+  asked = control_unasked settings (first_of (unrun first)) plan.workers (HasTried-none link.tried link.send_faults).sends control;
   outs_sent = 0;
   outs_unsent = 0;
   outs_served = outs_are;
@@ -185,11 +185,14 @@ module _ {O : Type 0} {g : Ghosts O} {T : Type 0} where
         (moved (λ settings first events. AreCounted settings first events server.counts.datagrams server.counts.packets server.counts.updated server.counts.torn)
         settings_are first_is events_are server.counted.events_are)
 
-    tried : HasTried link.tried link'.tried link.send_faults link'.send_faults (answers_after settings (first_of run_of) [] (events_of run_of)) runs.does.answered.more runs.does.answered.missed
+    -- the answers that the link tried, and what was asked
+    tried : (tried : HasTried link.tried link'.tried link.send_faults link'.send_faults (answers_after settings (first_of run_of) [] (events_of run_of)) runs.answered.more runs.answered.missed)
+        × ControlServes settings (first_of run_of) plan.workers tried.sends control control' runs.whole runs.rounds
     tried =
-        subst (λ (wanted : List (Peer × List ℕ)). HasTried link.tried link'.tried link.send_faults link'.send_faults wanted runs.does.answered.more runs.does.answered.missed)
-        (λ i. answers_after (at.settings_are i) ((at.first_is ∙ secret_is) i) (events_among (at.none_happened i)) (events_of run_of))
-        runs.does.answered.tried
+        subst (λ (of : Settings × Secret). (tried : HasTried link.tried link'.tried link.send_faults link'.send_faults (answers_after of.0 of.1 [] (events_of run_of)) runs.answered.more runs.answered.missed)
+        × ControlServes of.0 of.1 plan.workers tried.sends control control' runs.whole runs.rounds)
+        (λ i. (at.settings_are i, (at.first_is ∙ secret_is) i))
+        (runs.answered.tried, runs.asked)
 
     published_is : published_in server ≡ published_log settings (first_of run_of) (published_events run_of)
     published_is = server.shown ∙ (λ i. published_log (settings_are i) (first_is i) (published_events_among (happened i)))
@@ -213,11 +216,6 @@ module _ {O : Type 0} {g : Ghosts O} {T : Type 0} where
     late_owed =
         subst (λ (secret : Secret). AreOwedLate settings secret (turns_of run_of)) (at.first_is ∙ secret_is)
         (subst (λ (known : Settings). AreOwedLate known (first_in start) (turns_of run_of)) at.settings_are runs.late_owed)
-
-    asked : ControlServes settings (first_of run_of) plan.workers control control' runs.whole runs.rounds
-    asked =
-        subst (λ (secret : Secret). ControlServes settings secret plan.workers control control' runs.whole runs.rounds) (at.first_is ∙ secret_is)
-        (subst (λ (known : Settings). ControlServes known (first_in start) plan.workers control control' runs.whole runs.rounds) at.settings_are runs.asked)
 
     is_owed : IsOwedBy (turns_of run_of) ending.owed
     is_owed some =
@@ -248,11 +246,11 @@ module _ {O : Type 0} {g : Ghosts O} {T : Type 0} where
             words = AppendsAll-then words.given words'.given words''.given drawn (words_drawn (turns_of run_of)) gave runs.does.words;
             link = runs.does.link;
             feed = runs.does.feed;
-            asked = asked;
             started = starts_all plan end runs.rounds runs.last runs.whole runs.cut (length outs) threads starts starts' some runs.ended mode number all_started idle;
-            link_sent = runs.does.answered.more;
-            link_unsent = runs.does.answered.missed;
-            link_tried = tried;
+            link_sent = runs.answered.more;
+            link_unsent = runs.answered.missed;
+            link_tried = tried.0;
+            asked = tried.1;
             outs_sent = ending.outs_sent;
             outs_unsent = ending.outs_unsent;
             outs_served = used given.jobs due are are_published
@@ -261,8 +259,8 @@ module _ {O : Type 0} {g : Ghosts O} {T : Type 0} where
             prompt = is_prompt settings (first_of run_of);
             turns_are = runs.done_is;
             counted = counted;
-            sent_are = ap (λ (counts : Counts). counts.sent + ending.outs_sent) finishes.same_counts ∙ sum_is server.counts.sent start.counts.sent runs.does.answered.more ending.outs_sent runs.does.answered.sent_are (ap (λ (counts : Counts). counts.sent) at.none_counted);
-            unsent_are = ap (λ (counts : Counts). counts.unsent + ending.outs_unsent) finishes.same_counts ∙ sum_is server.counts.unsent start.counts.unsent runs.does.answered.missed ending.outs_unsent runs.does.answered.unsent_are (ap (λ (counts : Counts). counts.unsent) at.none_counted);
+            sent_are = ap (λ (counts : Counts). counts.sent + ending.outs_sent) finishes.same_counts ∙ sum_is server.counts.sent start.counts.sent runs.answered.more ending.outs_sent runs.answered.sent_are (ap (λ (counts : Counts). counts.sent) at.none_counted);
+            unsent_are = ap (λ (counts : Counts). counts.unsent + ending.outs_unsent) finishes.same_counts ∙ sum_is server.counts.unsent start.counts.unsent runs.answered.missed ending.outs_unsent runs.answered.unsent_are (ap (λ (counts : Counts). counts.unsent) at.none_counted);
             starved_are = ap (λ (counts : Counts). counts.starved) finishes.same_counts
                 ∙ from_none server.counts.starved start.counts.starved _ runs.does.refused.starved_are (ap (λ (counts : Counts). counts.starved) at.none_counted);
             late_are = ap (λ (counts : Counts). counts.late) finishes.same_counts

@@ -3,7 +3,7 @@ use Rattle.std.specs.Prelude.{◌≡◌, ℕ, ◌+◌, ◌≤◌, ◌<◌, Bool,
 use Rattle.std.specs.List.{list_any}
 use Rattle.amt_ports.specs.{Causes.{Rose}, Devices.{AnswersAll, LinkSeen}, Told.{Answers, Appends}, declared.link.LinkAnswer.{LinkAnswer, TheVariants.{Datagram as LineCame, Nothing as NothingCame, Closed as LinkClosed}}}
 use Rattle.amt_values.specs.{Conditions.{First}, declared.peer.Peer.{Peer}}
-use Rattle.control_lines.specs.{Answer.{HasReplied}, Asking.{Asks, Fails, line_of, order_of_reasons}, declared.asking.Asking.{Asking, TheVariants.{Counts, Show, ShowOf, Stop}}}
+use Rattle.control_lines.specs.{Answer.{HasReplied, is_answer}, Asking.{Asks, Fails, line_of, order_of_reasons}, declared.asking.Asking.{Asking, TheVariants.{Counts, Show, ShowOf, Stop}}}
 use Rattle.response_mac.specs.declared.secret.Secret.{Secret}
 use Rattle.script_lines.specs.declared.reason.Reason.{Reason}
 use Rattle.relay_machine.specs.declared.settings.Settings.{Settings}
@@ -34,7 +34,7 @@ is_stop (Err reason) = false
 abbrev pub refused_among : List Asked → ℕ
 refused_among asked = count_by (λ one. one.starved) asked
 
--- where memory refused so many answers more
+-- the same, but that memory refused this number of answers more
 abbrev pub refusing_more : ℕ → Standing → Standing
 refusing_more number standing = record standing { starved = standing.starved + number }
 
@@ -43,10 +43,12 @@ pub record IsUntried (before after : LinkSeen) : Type 0 where
   pub same_tried : after.tried ≡ before.tried
   pub same_faults : after.send_faults ≡ before.send_faults
 
--- exactly the answer was tried to whoever asked, or nothing where memory refused it
-abbrev pub HasAnswer : Bool → Peer → List ℕ → LinkSeen → LinkSeen → Type 0
-HasAnswer true from text before after = IsUntried before after
-HasAnswer false from text before after = HasReplied from text before after
+-- Exactly this text was tried to whoever asked, or nothing where memory refused it. A line that is itself an answer is
+-- answered by nothing, so that two controls never answer one another for ever.
+abbrev pub HasAnswer : (itself starved : Bool) → Peer → List ℕ → LinkSeen → LinkSeen → Type 0
+HasAnswer true starved from text before after = (starved ≡ false) × IsUntried before after
+HasAnswer false true from text before after = IsUntried before after
+HasAnswer false false from text before after = HasReplied from text before after
 
 module _ (settings : Settings) (first : Secret) (workers : ℕ) where
   -- the line was the next that came, and was answered by where the run stood
@@ -54,11 +56,11 @@ module _ (settings : Settings) (first : Secret) (workers : ℕ) where
     pub came : Answers LinkClosed before.link.coming after.link.coming (LineCame one.from one.line)
     pub read : IsRead one.line one.reading
     pub counted : Appends before.copies after.copies one.copied
-    pub answer : HasAnswer one.starved one.from (reply_text settings first workers standing one.reading one.copied) before.link after.link
+    pub answer : HasAnswer (is_answer one.line) one.starved one.from (reply_text settings first workers standing one.reading one.copied) before.link after.link
     pub calm : after.link.receive_faults ≡ before.link.receive_faults
     pub unwaited : after.wait ≤ before.wait
 
-  -- one line after the other, where those before it were refused
+  -- one line after the other, each with the number of answers before it that memory refused
   pub data AreAnswered (standing : Standing) (start : ControlSeen) : List Asked → ControlSeen → Type 0 where
     no_line : AreAnswered standing start [] start
     line_more : (asked : List Asked) (now : ControlSeen) → AreAnswered standing start asked now
@@ -73,7 +75,7 @@ pub data RoundEnd : Type 0 where
   Shut : RoundEnd
   Failed : RoundEnd
 
--- after so many lines
+-- after this number of lines
 abbrev pub IsEnd : RoundEnd → ℕ → Type 0
 IsEnd Full lines = lines ≡ 64
 IsEnd other lines = lines < 64
@@ -108,7 +110,7 @@ is_stopped round = list_any (λ one. is_stop one.reading) round.asked
 abbrev pub refused_in : Round → ℕ
 refused_in round = refused_among round.asked
 
--- a round after a turn after which the run stood so
+-- a round, where the run stood so at its beginning
 pub record IsRound (settings : Settings) (first : Secret) (workers : ℕ) (standing : Standing) (round : Round) (before after : ControlSeen) : Type 0 where
   pub last : ControlSeen
   pub answered : AreAnswered settings first workers standing before round.asked last

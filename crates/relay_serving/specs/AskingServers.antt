@@ -2,16 +2,16 @@
 use Rattle.std.specs.Prelude.{◌≡◌, ℕ, ◌+◌, ◌*◌, Bool, false, List, length, sum_by, Option, None, Some, Result}
 use Rattle.amt_ports.specs.{Told.{Appends}, declared.out_link.OutLink.{Ghosts}}
 use Rattle.amt_values.specs.declared.peer.Peer.{Peer}
-use Rattle.control_lines.specs.declared.asking.Asking.{Asking}
+use Rattle.control_lines.specs.{Answer.{is_answer}, declared.asking.Asking.{Asking}}
 use Rattle.script_lines.specs.declared.reason.Reason.{Reason}
 use Rattle.relay_serving.specs.{Asked.{Asked, EndsRound, HasAnswer, IsAnswered, IsEnd, IsRead, IsRound, Round, RoundEnd, is_stop, is_stopped, refused_in}, Controls.{ControlSeen}, Counting.{one_if, starved_in}, Replies.{Standing, reply_text}, declared.control.CopyCount.{CopyCount}}
 use Rattle.relay_serving.specs.{Servers.{counts_in, first_in, happenings_in, settings_in}, Traces.{ServerDoes, Trace, in_turns, nothing}, Turns.{Turn}, declared.server.Server.{Server}}
 
--- memory refused so many answers to lines
+-- memory refused this number of answers to lines
 abbrev pub refusing : ℕ → Trace
 refusing number = record nothing { starved = number; tally = number }
 
--- the same after turns
+-- turns, before which this moment was the latest, and after them this number of answers that memory refused
 abbrev pub in_turns_refusing : ℕ → List Turn → ℕ → Trace
 in_turns_refusing latest turns refused = record (in_turns latest turns) {
   starved = sum_by starved_in turns + refused;
@@ -19,7 +19,7 @@ in_turns_refusing latest turns refused = record (in_turns latest turns) {
 }
 
 module _ {O : Type 0} {g : Ghosts O} {T : Type 0} where
-  -- where it stands after so many turns
+  -- where it stands, if this number of turns was whole
   abbrev pub standing_in : ℕ → Server O T g → Standing
   standing_in turns server = record {
     happenings = happenings_in server;
@@ -37,7 +37,7 @@ module _ {O : Type 0} {g : Ghosts O} {T : Type 0} where
     pub starved : Bool
     pub read : IsRead line reading
     pub counted : Appends control.copies control'.copies copied
-    pub answer : HasAnswer starved from (reply_text (settings_in before) (first_in before) workers (standing_in turns before) reading copied) control.link control'.link
+    pub answer : HasAnswer (is_answer line) starved from (reply_text (settings_in before) (first_in before) workers (standing_in turns before) reading copied) control.link control'.link
     pub same_coming : control'.link.coming ≡ control.link.coming
     pub calm : control'.link.receive_faults ≡ control.link.receive_faults
     pub same_wait : control'.wait ≡ control.wait

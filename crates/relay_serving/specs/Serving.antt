@@ -122,8 +122,6 @@ pub record Serves (settings : Settings) (plan : ServePlan) (before after : Devic
   pub words : AppendsAll before.words.given after.words.given (run.first ++ words_drawn (turns_of run))
   pub link : AnswersAll LinkClosed before.link.coming after.link.coming (link_answers (turns_of run))
   pub feed : AnswersAll FeedClosed before.feed.coming after.feed.coming (feed_answers (turns_of run))
-  -- the lines after each whole turn, and the answers to them
-  pub asked : ControlServes settings (first_of run) plan.workers control control' run.whole run.rounds
   -- the workers
   pub started : StartsWorkers plan.workers (turns_of run) report.end before.starts after.starts
   -- what was sent
@@ -131,6 +129,8 @@ pub record Serves (settings : Settings) (plan : ServePlan) (before after : Devic
   pub link_unsent : ℕ
   pub link_tried : HasTried before.link.tried after.link.tried before.link.send_faults after.link.send_faults
       (answers_after settings (first_of run) [] (events_of run)) link_sent link_unsent
+  -- the lines after each whole turn, and the answers to them
+  pub asked : ControlServes settings (first_of run) plan.workers link_tried.sends control control' run.whole run.rounds
   pub outs_sent : ℕ
   pub outs_unsent : ℕ
   pub outs_served : OutsServed settings plan run report outs outs' before.starts after.starts views outs_sent outs_unsent

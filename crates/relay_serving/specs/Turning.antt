@@ -1,7 +1,7 @@
 -- What one turn does, and all turns of a run.
 use Rattle.std.specs.Prelude.{◌≡◌, ◌≢◌, ℕ, List, [], ◌∷◌, length, sum_by, Option, Result, Ok, Err, IsOk}
 use Rattle.amt_ports.specs.{declared.{out_link.OutLink.{Ghosts}, end.End.{End, TheVariants.{LinkFault, FeedFault, WordsFault}}}, EndCauses.{IsCauseOf, IsCausedBy}}
-use Rattle.relay_serving.specs.{Asked.{Round, refused_in}, AskingServers.{in_turns_refusing}, Controls.{ControlSeen}, Rounds.{ControlServes}, Devices.{Devices}, Runs.{HasEnded, IsCut, with_cut}, Servers.{first_in, owing_in, settings_in}, Serving.{AreOwedLate}, Traces.{Does, World, in_turns}, Turns.{AreWhole, IsWhole, Progress, Refused, Turn, after_turn, no_progress}, declared.plan.ServePlan.{ServePlan}}
+use Rattle.relay_serving.specs.{Asked.{Round, refused_in}, AskingServers.{in_turns_refusing}, Controls.{ControlSeen}, Counting.{HasAnswered}, Rounds.{ControlServes}, Devices.{Devices}, Events.{happenings_from}, Happenings.{events_among}, Runs.{HasEnded, IsCut, with_cut}, Sending.{answers_after}, Servers.{counts_in, first_in, owing_in, settings_in}, Serving.{AreOwedLate}, Traces.{Does, World, in_turns}, Turns.{AreWhole, IsWhole, Progress, Refused, Turn, after_turn, no_progress}, declared.plan.ServePlan.{ServePlan}}
 
 -- the turn is whole, or the run ended in it
 abbrev pub IsTurnBy : Result (Unit {0}) End → ℕ → Progress → Turn → Type 0
@@ -37,7 +37,9 @@ module _ {O : Type 0} {g : Ghosts O} {T : Type 0} where
     pub last : Progress
     pub rounds : List Round
     pub does : Does (in_turns_refusing 0 (with_cut whole cut) (sum_by refused_in rounds)) before after
-    pub asked : ControlServes (settings_in before.server) (first_in before.server) plan.workers control control' whole rounds
+    pub answered : HasAnswered before.devices.link after.devices.link (counts_in before.server) (counts_in after.server)
+        (answers_after (settings_in before.server) (first_in before.server) [] (events_among (happenings_from 0 (with_cut whole cut))))
+    pub asked : ControlServes (settings_in before.server) (first_in before.server) plan.workers answered.tried.sends control control' whole rounds
     pub causes : EndsIn end before.devices after.devices
     pub late_owed : AreOwedLate (settings_in before.server) (first_in before.server) (with_cut whole cut)
     pub are_whole : AreWhole plan.rotate_ms no_progress whole last

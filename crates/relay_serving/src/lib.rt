@@ -23,5 +23,6 @@ mod serving;
 pub use amt_ports::End;
 pub use control::{Control, Copies, CopyCount};
 pub use mem_copies::MemCopies;
+pub use outcomes::outcome_words_are_those_of_replays;
 pub use plan::{ServePlan, ServeReport, Served};
 pub use serving::serve_relay;

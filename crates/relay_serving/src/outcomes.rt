@@ -1,8 +1,9 @@
 //! The words by which a running relay counts what its events came to.
 ghost use Rattle.std.specs.{Prelude.{◌≡◌, ◌≤◌, ◌<◌, ◌++◌, ℕ, List, [], Some, IfOk, OnOk, length, nat_lt}, List.{slice_get}};
-ghost use Rattle.relay_machine.specs.Packets.{by_head, head_to_copy};
+ghost use Rattle.relay_machine.specs.{Packets.{by_head, head_to_copy}, declared.outcome.Outcome.{Outcome as OutcomeValue}};
 ghost use Rattle.inner_datagrams.specs.Head.{head_of};
-ghost use Rattle.control_lines.specs.Tally.{numbers_of, tally_text};
+ghost use Rattle.amt_script.specs.Texts.{outcome_text};
+ghost use Rattle.control_lines.specs.Tally.{BeginsWithWord, numbers_of, tally_text};
 ghost use Rattle.relay_serving.specs.OutcomeWords.{HasCounted, IsTallyOfFew, outcome_words, packet_word, word_of};
 
 use amt_values::{Bytes, forwardable};
@@ -85,6 +86,11 @@ fn packet_place(limit: u32, packet: &[u8]) -> usize
         place_by_head(packet)
     }
 }
+
+/// The word by which an outcome is counted is the first one of what a replay prints of it.
+pub fn outcome_words_are_those_of_replays()
+    ensures { (outcome : OutcomeValue) → BeginsWithWord (outcome_text outcome) (word_of outcome) }
+{}
 
 /// How often each word was that of an outcome, at a relay that copies packets up to this length.
 #[derive(Drop)]

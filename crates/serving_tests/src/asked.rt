@@ -35,8 +35,33 @@ const THREE_TURNS: Script<'static> = Script {
     ..SCRIPT
 };
 
+// The same, with an Update of 35 records, which want all sources of 239.1.1.1 to 239.1.1.35.
+const MANY: Script<'static> = Script {
+    heard: &[
+        Answer::Octets(
+            "05004db758a175550a0b0c0d\
+46c0013800000000010238e80a000002e0000016940400002200c5220000002302000000ef010101\
+02000000ef01010202000000ef01010302000000ef01010402000000ef01010502000000ef010106\
+02000000ef01010702000000ef01010802000000ef01010902000000ef01010a02000000ef01010b\
+02000000ef01010c02000000ef01010d02000000ef01010e02000000ef01010f02000000ef010110\
+02000000ef01011102000000ef01011202000000ef01011302000000ef01011402000000ef010115\
+02000000ef01011602000000ef01011702000000ef01011802000000ef01011902000000ef01011a\
+02000000ef01011b02000000ef01011c02000000ef01011d02000000ef01011e02000000ef01011f\
+02000000ef01012002000000ef01012102000000ef01012202000000ef010123",
+        ),
+        Answer::Nothing,
+    ],
+    ..THREE_TURNS
+};
+
+// The link is closed in the second of three turns.
+const CUT: Script<'static> = Script {
+    heard: &[UPDATE, Answer::Nothing],
+    ..THREE_TURNS
+};
+
 // Lines, the answers to them, and the turns that were done.
-const ROWS: [(&str, &[Answer<'static>], &[&str], u64); 6] = [
+const ROWS: [(&str, &[Answer<'static>], &[&str], u64); 8] = [
     (
         "counts, with the copies",
         &[Answer::Line("counts\n"), Answer::Nothing],
@@ -71,6 +96,28 @@ const ROWS: [(&str, &[Answer<'static>], &[&str], u64); 6] = [
         &["bad word\n. 1\n", "bad count\n. 1\n", "bad peer\n. 1\n"],
         3,
     ),
+    (
+        "lines that are answers themselves",
+        &[
+            Answer::Line(". 1\n"),
+            Answer::Line("bad word\n. 1\n"),
+            Answer::Line("show"),
+            Answer::Nothing,
+        ],
+        &[ROW],
+        3,
+    ),
+    (
+        "two of a word, and stop before other lines",
+        &[
+            Answer::Line("show"),
+            Answer::Line("stop"),
+            Answer::Line("show"),
+            Answer::Nothing,
+        ],
+        &[ROW, ". 1\n", ROW],
+        1,
+    ),
     ("a control that is closed", &[], &[], 3),
 ];
 
@@ -86,10 +133,11 @@ fn control_of(alloc: Global, lines: &[Answer]) -> Result<Control<MemLink, MemCop
 fn ask<R: Threads + Wait + Abort + 'static>(
     rt: &R,
     alloc: Global,
+    script: &Script,
     lines: &[Answer],
 ) -> Result<(u64, Option<Control<MemLink, MemCopies>>), AllocError> {
     let mut control = Some(control_of(alloc, lines)?);
-    let mut devices = devices_of(alloc, &THREE_TURNS)?;
+    let mut devices = devices_of(alloc, script)?;
     let mut spawner = ListedSpawner::new(rt, Starter { rt }, Vec::new(alloc));
     let outs = two_outs(alloc)?;
     let served = serve_asked(
@@ -126,7 +174,7 @@ fn assert_answers(
 #[test]
 fn a_line_is_answered_to_whoever_sent_it(rt: HostRuntime) {
     for (what, lines, answers, turns) in ROWS {
-        let Ok((done, control)) = ask(&rt, rt.alloc(), lines) else {
+        let Ok((done, control)) = ask(&rt, rt.alloc(), &THREE_TURNS, lines) else {
             panic!(rt; "out of memory");
         };
         assert_eq!(rt; done, turns, "{what}");
@@ -143,7 +191,7 @@ fn a_turn_answers_64_lines_and_leaves_the_next_to_the_one_after_it(rt: HostRunti
     let Ok(()) = lines.push(Answer::Line("counts\n")) else {
         panic!(rt; "out of memory");
     };
-    let Ok((_done, Some(control))) = ask(&rt, rt.alloc(), lines.as_slice()) else {
+    let Ok((_done, Some(control))) = ask(&rt, rt.alloc(), &THREE_TURNS, lines.as_slice()) else {
         panic!(rt; "out of memory");
     };
     let tried = control.link.tried();
@@ -152,4 +200,38 @@ fn a_turn_answers_64_lines_and_leaves_the_next_to_the_one_after_it(rt: HostRunti
         panic!(rt; "none");
     };
     assert!(rt; last.bytes.as_slice().starts_with(b"turns 2\n"));
+}
+
+// The rows of these groups, and the line after them.
+fn rows_text(alloc: Global, first: u8, last: u8, end: &str) -> Result<String, AllocError> {
+    let mut text = String::new(alloc);
+    for group in first..=last {
+        write!(text, "* 198.51.100.7:5000 239.1.1.{group} exclude -\n")?;
+    }
+    text.push_str(end)?;
+    Ok(text)
+}
+
+fn check_long<R: Threads + Wait + Abort + 'static>(rt: &R, alloc: Global) -> Result<(), AllocError> {
+    let (_done, control) = ask(rt, alloc, &MANY, &[Answer::Line("show"), Answer::Nothing])?;
+    let first = rows_text(alloc, 1, 33, "")?;
+    let second = rows_text(alloc, 34, 35, ". 2\n")?;
+    assert_eq!(rt; first.len(), 1344);
+    assert_answers(rt, "two datagrams", &control, &[first.as_str(), second.as_str()]);
+    Ok(())
+}
+
+#[test]
+fn an_answer_of_more_than_1400_octets_is_cut_after_a_line(rt: HostRuntime) {
+    assert!(rt; check_long(&rt, rt.alloc()).is_ok());
+}
+
+#[test]
+fn nobody_is_answered_after_a_turn_that_is_cut(rt: HostRuntime) {
+    let lines = [Answer::Line("show"), Answer::Nothing, Answer::Line("show")];
+    let Ok((done, control)) = ask(&rt, rt.alloc(), &CUT, &lines) else {
+        panic!(rt; "out of memory");
+    };
+    assert_eq!(rt; done, 1);
+    assert_answers(&rt, "the first turn alone", &control, &[ROW]);
 }

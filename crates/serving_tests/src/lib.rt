@@ -17,6 +17,8 @@ mod gateway_asked;
 #[cfg(test)]
 mod gateway_ends;
 #[cfg(test)]
+mod ordered;
+#[cfg(test)]
 mod relay;
 #[cfg(test)]
 mod relay_ends;

@@ -3,7 +3,7 @@ ghost use Rattle.relay_machine.specs.Settings.{AreLawfulSettings};
 ghost use Rattle.relay_serving.specs.Plans.{IsLawfulPlan};
 
 use crate::devices::{Answer, Devices, Script};
-use amt_ports::{Feed, Link, MemLink, OutLink, Spawner};
+use amt_ports::{Clock, Feed, Link, MemLink, OutLink, Spawner, Words};
 use amt_values::{Ip, Peer};
 use relay_machine::Settings;
 use relay_serving::{Control, Copies, MemCopies, ServePlan, Served, serve_relay};
@@ -94,14 +94,40 @@ pub fn serve_asked<
     spawner: &mut P,
     control: &mut Option<Control<K, N>>,
 ) -> Served<O> {
-    assert_lawful(rt, &plan);
-    assert_eq!(rt; outs.len(), plan.workers.max(1) as usize);
     let Devices {
         link,
         feed,
         clock,
         words,
     } = devices;
+    serve_by(rt, alloc, plan, link, feed, clock, words, outs, spawner, control)
+}
+
+/// The same, by any devices.
+pub fn serve_by<
+    R: Wait + Abort,
+    L: Link,
+    F: Feed,
+    C: Clock,
+    W: Words,
+    O: OutLink + Drop,
+    K: Link,
+    N: Copies,
+    P: Spawner<Worker<O>>,
+>(
+    rt: &R,
+    alloc: Global,
+    plan: ServePlan,
+    link: &mut L,
+    feed: &mut F,
+    clock: &mut C,
+    words: &mut W,
+    outs: Outs<O>,
+    spawner: &mut P,
+    control: &mut Option<Control<K, N>>,
+) -> Served<O> {
+    assert_lawful(rt, &plan);
+    assert_eq!(rt; outs.len(), plan.workers.max(1) as usize);
     serve_relay(
         rt,
         alloc,

@@ -1,14 +1,14 @@
 //! How a running relay answers lines that ask it for something.
-ghost use Rattle.std.specs.Prelude.{◌≡◌, ◌≤◌, ◌<◌, ◌+◌, ◌^◌, ◌||◌, length, OnErr, OnOk};
+ghost use Rattle.std.specs.Prelude.{◌≡◌, ◌≤◌, ◌<◌, ◌+◌, ◌^◌, ◌||◌, length, is_err};
 ghost use Rattle.amt_ports.specs.Devices.{link_at};
-ghost use Rattle.control_lines.specs.Answer.{HasReplied};
-ghost use Rattle.relay_serving.specs.{Asked.{IsUntried, is_stop}, AskingServers.{AsksSo, LineSo, NextSo, RoundSo, standing_in}, Controls.{control_at, controls_at}, Replies.{reply_text}, Servers.{first_in, settings_in, tally_in}};
+ghost use Rattle.control_lines.specs.Answer.{is_answer};
+ghost use Rattle.relay_serving.specs.{Asked.{HasAnswer, is_stop}, AskingServers.{AsksSo, LineSo, NextSo, RoundSo, standing_in}, Controls.{control_at, controls_at}, Replies.{reply_text}, Servers.{first_in, settings_in, tally_in}};
 
 use super::Server;
 use crate::control::{Control, Copies, CopyCount};
 use amt_ports::{BURST, Got, Link, OutLink};
 use amt_values::Peer;
-use control_lines::{Asking, answer_line, read_asking};
+use control_lines::{Asking, answer_line, is_answer, read_asking};
 use script_lines::Reason;
 use std::alloc::{AllocError, Global};
 
@@ -29,7 +29,7 @@ fn either(one: bool, other: bool) -> bool
 }
 
 impl<O: OutLink + Drop, T> Server<O, T> {
-    // Tries to send what answers a line. Out of memory nothing is sent.
+    // Tries to send what answers a line, if that isn't an answer itself. Out of memory nothing is sent.
     fn send_reply<K: Link>(
         &self,
         alloc: Global,
@@ -37,17 +37,20 @@ impl<O: OutLink + Drop, T> Server<O, T> {
         turns: u64,
         link: &mut K,
         from: &Peer,
+        line: &[u8],
         reading: &Result<Asking, Reason>,
         copied: &CopyCount,
     ) -> Result<(), AllocError>
-        ensures replied { OnOk result (HasReplied from.now
+        ensures answer { HasAnswer (is_answer line.now) (is_err result) from.now
             (reply_text (settings_in self.now) (first_in self.now) workers (standing_in turns self.now) reading.now copied.now)
-            (link_at K.Link link.old) (link_at K.Link link.new)) }
-        ensures untried { OnErr result (IsUntried (link_at K.Link link.old) (link_at K.Link link.new)) }
+            (link_at K.Link link.old) (link_at K.Link link.new) }
         ensures coming { K.coming link.new ≡ K.coming link.old }
         ensures calm { K.receive_faults link.new ≡ K.receive_faults link.old }
         ensures waits { K.longest_wait link.new ≡ K.longest_wait link.old }
     {
+        if is_answer(line) {
+            return Ok(());
+        }
         let Ok(text) = self.reply(alloc, workers, turns, reading, copied) else {
             return Err(AllocError);
         };
@@ -71,7 +74,7 @@ impl<O: OutLink + Drop, T> Server<O, T> {
         let reading = read_asking(line);
         let copied = control.copies.copies();
         let link = &mut control.link;
-        match self.send_reply(alloc, workers, turns, link, &from, &reading, &copied) {
+        match self.send_reply(alloc, workers, turns, link, &from, line, &reading, &copied) {
             Ok(()) => {}
             Err(_) => self.starve(),
         }

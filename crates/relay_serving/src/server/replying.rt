@@ -61,7 +61,7 @@ impl<O: OutLink + Drop, T> Server<O, T> {
         self.relay.rows(alloc)
     }
 
-    // The numbers after so many turns.
+    // The numbers, after this number of whole turns.
     fn numbers(
         &self,
         alloc: Global,
@@ -134,7 +134,7 @@ impl<O: OutLink + Drop, T> Server<O, T> {
         Ok(text)
     }
 
-    /// What answers a line that was read so, after so many turns.
+    /// What answers a line that was read so, after this number of whole turns.
     pub(super) fn reply(
         &self,
         alloc: Global,
