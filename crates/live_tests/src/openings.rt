@@ -101,12 +101,7 @@ fn is_gateway_at(
 }
 
 // What was given back is closed, so each can have the same places after the other.
-fn all_are_at(
-    alloc: Global,
-    live: &mut HostLive<HostRuntime>,
-    at: &Places,
-    far: &FarEnd,
-) -> bool {
+fn all_are_at(alloc: Global, live: &mut HostLive<HostRuntime>, at: &Places, far: &FarEnd) -> bool {
     is_relay_at(alloc, live, at, 0, far)
         && is_relay_at(alloc, live, at, 1, far)
         && is_gateway_at(alloc, live, at, far)

@@ -138,11 +138,7 @@ enum Kind {
 type Answer = Result<Kind, OpenFault>;
 
 // What an opening for a relay hands out, which is given back.
-fn open_relay<R: Wait + Drop>(
-    live: &mut MemSets<R>,
-    control: &Option<Peer>,
-    slots: u32,
-) -> Answer {
+fn open_relay<R: Wait + Drop>(live: &mut MemSets<R>, control: &Option<Peer>, slots: u32) -> Answer {
     match live.open_relay(&LISTEN, &FEED, control, slots) {
         Ok(devices) => {
             let kind = match &devices.control {
@@ -225,11 +221,7 @@ const OPENINGS: [Row; 5] = [
     ),
 ];
 
-fn answers<R: Wait + Drop>(
-    live: &mut MemSets<R>,
-    kinds: &[Kind; 4],
-    wanted: &[Answer; 4],
-) -> bool {
+fn answers<R: Wait + Drop>(live: &mut MemSets<R>, kinds: &[Kind; 4], wanted: &[Answer; 4]) -> bool {
     for (kind, want) in kinds.iter().zip(wanted) {
         if open(live, kind) != *want {
             return false;

@@ -200,7 +200,7 @@ module _ {O : Type 0} {g : Ghosts O} {T : Type 0} where
         let both = answered_then _ _ _ _ _ _ _ _ _ run.answered next.does.answered wanted in (
           both.0,
           subst (λ (sends : List TriedSend). ControlServes settings first workers sends control control' run.turns run.rounds) (sym both.1)
-          (serves_further settings first workers run.answered.tried.sends next.does.answered.tried.sends control control' run.turns run.rounds (as_many_sends _ _ _ _ _ run.answered) run.asked),
+              (serves_further settings first workers run.answered.tried.sends next.does.answered.tried.sends control control' run.turns run.rounds (as_many_sends _ _ _ _ _ run.answered) run.asked),
         )
 
     -- where it stands then
@@ -300,20 +300,20 @@ module _ {O : Type 0} {g : Ghosts O} {T : Type 0} where
       → TurnsSo plan.rotate_ms progress progress' now after (Err end) → done < plan.turns → RunsSo plan before after control control' end done
   RunsSo-cut plan progress progress' before now after control control' done end run next few =
       let answers = answered_more plan.rotate_ms plan.workers progress progress' before now after control control' done (Err end) run next in record {
-    whole = run.turns;
-    cut = Some next.turn;
-    last = progress;
-    rounds = run.rounds;
-    does = does_more plan.rotate_ms plan.workers progress progress' before now after control control' done (Err end) run next;
-    answered = answers.0;
-    asked = answers.1;
-    causes = record {
-      link = cause_then end LinkFault _ _ _ run.calm.link next.causes.link;
-      feed = cause_then end FeedFault _ _ _ run.calm.feed next.causes.feed;
-      words = cause_then end WordsFault _ _ _ run.calm.words next.causes.words;
-    };
-    late_owed = late_more plan.rotate_ms plan.workers progress progress' before now after control control' done (Err end) run next;
-    are_whole = run.are_whole;
-    ended = (subst (λ (n : ℕ). n < plan.turns) run.done_is few, next.is_turn, run.goes);
-    done_is = run.done_is;
-  }
+        whole = run.turns;
+        cut = Some next.turn;
+        last = progress;
+        rounds = run.rounds;
+        does = does_more plan.rotate_ms plan.workers progress progress' before now after control control' done (Err end) run next;
+        answered = answers.0;
+        asked = answers.1;
+        causes = record {
+          link = cause_then end LinkFault _ _ _ run.calm.link next.causes.link;
+          feed = cause_then end FeedFault _ _ _ run.calm.feed next.causes.feed;
+          words = cause_then end WordsFault _ _ _ run.calm.words next.causes.words;
+        };
+        late_owed = late_more plan.rotate_ms plan.workers progress progress' before now after control control' done (Err end) run next;
+        are_whole = run.are_whole;
+        ended = (subst (λ (n : ℕ). n < plan.turns) run.done_is few, next.is_turn, run.goes);
+        done_is = run.done_is;
+      }

@@ -212,12 +212,20 @@ fn rows_text(alloc: Global, first: u8, last: u8, end: &str) -> Result<String, Al
     Ok(text)
 }
 
-fn check_long<R: Threads + Wait + Abort + 'static>(rt: &R, alloc: Global) -> Result<(), AllocError> {
+fn check_long<R: Threads + Wait + Abort + 'static>(
+    rt: &R,
+    alloc: Global,
+) -> Result<(), AllocError> {
     let (_done, control) = ask(rt, alloc, &MANY, &[Answer::Line("show"), Answer::Nothing])?;
     let first = rows_text(alloc, 1, 33, "")?;
     let second = rows_text(alloc, 34, 35, ". 2\n")?;
     assert_eq!(rt; first.len(), 1344);
-    assert_answers(rt, "two datagrams", &control, &[first.as_str(), second.as_str()]);
+    assert_answers(
+        rt,
+        "two datagrams",
+        &control,
+        &[first.as_str(), second.as_str()],
+    );
     Ok(())
 }
 

@@ -100,7 +100,9 @@ pub fn serve_asked<
         clock,
         words,
     } = devices;
-    serve_by(rt, alloc, plan, link, feed, clock, words, outs, spawner, control)
+    serve_by(
+        rt, alloc, plan, link, feed, clock, words, outs, spawner, control,
+    )
 }
 
 /// The same, by any devices.

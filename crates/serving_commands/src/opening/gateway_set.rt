@@ -9,8 +9,7 @@ use gateway_serving::serve_gateway;
 use std::alloc::Global;
 
 impl<L: Link, K: Link, O: OutLink, C: Clock, W: Words> GatewaySet
-    for GatewayDevices<L, K, O, C, W>
-{
+    for GatewayDevices<L, K, O, C, W> {
     ghost seen = { gateway_seen L.Link K.Link O.OutLink C.Clock W.Words };
 
     fn serve(self, alloc: Global, config: &GatewayConfig, turns: u64) -> GatewayRan<Self> {

@@ -79,11 +79,7 @@ pub trait Live {
 
     /// Opens what a gateway runs on: the link at the first peer, and its control socket at the second, with one
     /// link out.
-    fn open_gateway(
-        &mut self,
-        listen: &Peer,
-        control: &Peer,
-    ) -> Result<Self::Gateway, OpenFault>
+    fn open_gateway(&mut self, listen: &Peer, control: &Peer) -> Result<Self::Gateway, OpenFault>
         ensures first { IfOk result (λ devices. TakesFirst (sets self.old) (sets self.new) (OfGateway devices)) }
         ensures room { OnOk result (room self.new ≡ more_room (room self.old)) }
 

@@ -48,11 +48,7 @@ impl<R: Drop, G: Drop> MemLive<R, G> {
     }
 
     /// The openings of these numbers fail, counted from 1.
-    pub fn failing(
-        alloc: Global,
-        sets: Vec<DeviceSet<R, G>>,
-        calls: Vec<u64>,
-    ) -> Self
+    pub fn failing(alloc: Global, sets: Vec<DeviceSet<R, G>>, calls: Vec<u64>) -> Self
         ensures sets { result.sets ≡ sets.items }
         ensures asked { result.asked ≡ Some [] }
         ensures returned { result.returned.sets ≡ [] }
