@@ -7,3 +7,4 @@ pub mod MachineSights
 pub mod Machines
 pub mod SideBySide
 pub mod TwinPlaces
+pub mod UpDeliveries
