@@ -1,5 +1,6 @@
 pub mod DualAgrees
 pub mod DualCourses
+pub mod DualMachines
 pub mod DualStates
 pub mod DualSteps
 pub mod MachineDeliveries

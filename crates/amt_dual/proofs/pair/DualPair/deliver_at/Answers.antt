@@ -92,3 +92,12 @@ returns-clause-next c = λ setup course v4 v6 stands here next twins.
     })
     (ap (λ (k : ℕ). with_member_at after event k v6) c.next_place-next.ensures
     ∙ sym (cond-true (is_ignored (answer_at v4 event).outcome) (with_member_at after event (place + 1) v6) after ignored))
+
+pub returns-in_err-parts-clause-err : goal.returns-in_err-parts-clause-err
+returns-in_err-parts-clause-err c = λ setup course v4 v6 stands here next twins. on_err_by c.from_residual.result refl
+
+pub returns-in_err-v4-clause-err : goal.returns-in_err-v4-clause-err
+returns-in_err-v4-clause-err c = λ setup course v4 v6 stands here next twins.
+    let pair = c.args.self.now in
+    on_err_by c.from_residual-in_err-v4.result
+    (same_pair pair pair.relay c.take_at.new.self c.take_at.new.up pair.down _ _ _ _ _ _ refl c.in_err-v4.ensures.same c.in_err-v4.ensures.same_up refl)
