@@ -1,9 +1,9 @@
 -- A step of a dual gateway by those of its machines.
-use Rattle.std.proofs.{Common.{◌≡◌, ℕ, Bool, true, false, List, [], ◌∷◌, ◌++◌, map, Option, Some, None, refl, sym, ap, ◌∙◌, subst}, lemmas.Bool.{cond-false, cond-true}}
+use Rattle.std.proofs.{Common.{◌≡◌, ℕ, Bool, true, false, List, [], ◌∷◌, ◌++◌, map, Some, None, refl, sym, ap, ◌∙◌, subst}, lemmas.Bool.{cond-false, cond-true}}
 use Rattle.amt_values.specs.declared.peer.Peer.{Peer}
 use Rattle.amt_pair.specs.Parts.{gateway_step}
 use Rattle.gateway_machine.specs.{Answers.{Answer}, Runs.{GatewayAt, answer_in}, Sends.{datagram_of}, declared.{event.GatewayEvent.{GatewayEvent, TheVariants.{Datagram as Heard}}, gateway.Gateway.{Gateway}, step.GatewayStep.{GatewayStep}}}
-use Rattle.amt_dual.specs.Answers.{AreSteps, DualAt, DualCourse, DualSettings, answer_by, dual_answer, events_by, is_ignored, machine_run, nonce_for, settings_by, with_dual_event}
+use Rattle.amt_dual.specs.Answers.{AreSteps, DualAt, DualCourse, DualSettings, answer_by, dual_answer, is_ignored, machine_run, nonce_for, settings_by, with_dual_event}
 use Rattle.amt_dual.specs.declared.{dual.Dual.{Dual}, event.DualEvent.TheVariants.{Datagram, Socket}}
 
 -- a step of a machine is what its fields say
