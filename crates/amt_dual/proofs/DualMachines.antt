@@ -1,10 +1,5 @@
 -- A step of a dual gateway by those of its machines.
-use Rattle.std.proofs.{Common.{◌≡◌, ℕ, Bool, true, false, List, [], ◌∷◌, ◌++◌, map, Some, None, refl, sym, ap, ◌∙◌, subst}, lemmas.Bool.{cond-false, cond-true}}
-use Rattle.amt_values.specs.declared.peer.Peer.{Peer}
-use Rattle.amt_pair.specs.Parts.{gateway_step}
-use Rattle.gateway_machine.specs.{Answers.{Answer}, Runs.{GatewayAt, answer_in}, Sends.{datagram_of}, declared.{event.GatewayEvent.{GatewayEvent, TheVariants.{Datagram as Heard}}, gateway.Gateway.{Gateway}, step.GatewayStep.{GatewayStep}}}
-use Rattle.amt_dual.specs.Answers.{AreSteps, DualAt, DualCourse, DualSettings, answer_by, dual_answer, is_ignored, machine_run, nonce_for, settings_by, with_dual_event}
-use Rattle.amt_dual.specs.declared.{dual.Dual.{Dual}, event.DualEvent.TheVariants.{Datagram, Socket}}
+use Rattle.{std.proofs.{Common.{◌≡◌, ℕ, Bool, true, false, List, [], ◌∷◌, ◌++◌, map, Some, None, refl, sym, ap, ◌∙◌, subst}, lemmas.Bool.{cond-false, cond-true}}, amt_values.specs.declared.peer.Peer.{Peer}, amt_pair.specs.Parts.{gateway_step}, gateway_machine.specs.{Answers.{Answer}, Runs.{GatewayAt, answer_in}, Sends.{datagram_of}, declared.{event.GatewayEvent.{GatewayEvent, TheVariants.{Datagram as Heard}}, gateway.Gateway.{Gateway}, step.GatewayStep.{GatewayStep}}}, amt_dual.specs.Answers.{AreSteps, DualCourse, DualSettings, answer_by, dual_answer, is_ignored, machine_run, nonce_for, settings_by, with_dual_event}, amt_dual.specs.declared.{event.DualEvent.TheVariants.{Datagram, Socket}}}
 
 -- a step of a machine is what its fields say
 pub step_is : (answer : Answer) (step : GatewayStep) → step.outcome ≡ answer.outcome → step.sends ≡ map datagram_of answer.sends → step.deliver ≡ answer.deliver
@@ -57,7 +52,7 @@ module _ (settings : DualSettings) (course : DualCourse) where
 
   -- ---- a socket call
 
-  module _ (event : GatewayEvent) (step : GatewayStep) (dual : Dual) where
+  module _ (event : GatewayEvent) (step : GatewayStep) where
     pub called6 : (v6 : Bool) → v6 ≡ true → step ≡ gateway_step (answer_of true event) → AreSteps settings course (Socket v6 event) (record { v4 = None; v6 = Some step; starved = false })
     called6 true is same = record { v4 = refl; v6 = ap (λ (one : GatewayStep). Some one) same }
     called6 false is same = absurd cc
@@ -65,11 +60,3 @@ module _ (settings : DualSettings) (course : DualCourse) where
     pub called4 : (v6 : Bool) → v6 ≡ false → step ≡ gateway_step (answer_of false event) → AreSteps settings course (Socket v6 event) (record { v4 = Some step; v6 = None; starved = false })
     called4 false is same = record { v4 = ap (λ (one : GatewayStep). Some one) same; v6 = refl }
     called4 true is same = absurd cc
-
-    pub reached6 : (v6 : Bool) → v6 ≡ true → IsAfter false dual.v4 course.v4 → IsAfter true dual.v6 (course.v6 ++ event ∷ []) → DualAt dual settings (with_dual_event settings course (Socket v6 event))
-    reached6 true is before at = record { v4 = before; v6 = at }
-    reached6 false is before at = absurd cc
-
-    pub reached4 : (v6 : Bool) → v6 ≡ false → IsAfter false dual.v4 (course.v4 ++ event ∷ []) → IsAfter true dual.v6 course.v6 → DualAt dual settings (with_dual_event settings course (Socket v6 event))
-    reached4 false is at before = record { v4 = at; v6 = before }
-    reached4 true is at before = absurd cc

@@ -1,8 +1,5 @@
 -- A delivery to the relay, by its number.
-use Rattle.std.proofs.{Common.{◌≡◌, ℕ, ◌-◌, nat_lt, Bool, true, false, cond, List, [], ◌∷◌, map, slice_get, Option, Some, None, option_map, refl, sym, ap, ◌∙◌}, lemmas.Option.{slice_get-map}}
-use Rattle.relay_machine.specs.declared.event.Event.{Event, TheVariants.{Datagram}}
-use Rattle.amt_pair.specs.{Members.{kept_upward}, Parts.{relay_step}, Schedule.{Course, Upward, delivery_up, numbered, up_delivered, with_relay_event}, Setup.{PairSetup}, declared.datagrams.UpDatagram.{UpDatagram}}
-use Rattle.amt_dual.specs.{Parts.{dual_parts_of, or_absent, up_parts}, Schedule.{with_dual_pair_event}, declared.{event.DualPairEvent.TheVariants.{Up}, step.DualPart.TheVariants.{Absent, Relay}}}
+use Rattle.{std.proofs.{Common.{◌≡◌, ℕ, ◌-◌, nat_lt, Bool, true, false, cond, List, [], ◌∷◌, map, slice_get, Option, Some, None, option_map, refl, sym, ap, ◌∙◌}, lemmas.Option.{slice_get-map}}, relay_machine.specs.declared.event.Event.{Event, TheVariants.{Datagram}}, amt_pair.specs.{Members.{kept_upward}, Parts.{relay_step}, Schedule.{Course, Upward, delivery_up, numbered, up_delivered, with_relay_event}, Setup.{PairSetup}, declared.datagrams.UpDatagram.{UpDatagram}}, amt_dual.specs.{Parts.{dual_parts_of, or_absent, up_parts}, Schedule.{with_dual_pair_event}, declared.{event.DualPairEvent.TheVariants.{Up}, step.DualPart.TheVariants.{Absent, Relay}}}}
 
 kept_where : (test : Bool) (kept : Option UpDatagram) (sent : Option Upward) → kept ≡ option_map kept_upward sent
     → cond test kept None ≡ option_map kept_upward (cond test sent None)

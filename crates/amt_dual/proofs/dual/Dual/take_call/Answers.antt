@@ -1,5 +1,4 @@
-use Rattle.std.proofs.Common.{false, true}
-use Rattle.amt_dual.{specs.{Answers.{nonce_for}, declared.dual.Dual.{Dual}}, proofs.DualMachines.{answer_of, called4, called6, reached4, reached6, step_is}}
+use Rattle.{std.proofs.Common.{false, true}, amt_dual.{specs.Answers.{nonce_for}, proofs.DualMachines.{answer_of, called4, called6, step_is}}}
 use Rattle.amt_dual.proofs.dual.Dual.take_call.Goals as goal
 
 pub returns-in_ok-step-clause-steps : goal.returns-in_ok-step-clause-steps
@@ -8,13 +7,7 @@ returns-in_ok-step-clause-steps c = λ settings course at.
     let nonce = nonce_for settings.nonce true in
     let same = step_is (answer_of settings course true event) c.in_ok-step.step (c.in_ok-step.ensures.outcome settings.v6 nonce course.v6 at.v6)
     (c.in_ok-step.ensures.sends settings.v6 nonce course.v6 at.v6) (c.in_ok-step.ensures.deliver settings.v6 nonce course.v6 at.v6) in
-    called6 settings course event c.in_ok-step.step c.args.self.now c.args.v6 c.if-v6.true same
-
-pub returns-in_ok-step-clause-next : goal.returns-in_ok-step-clause-next
-returns-in_ok-step-clause-next c = λ settings course at.
-    let dual : Dual = record { v4 = c.args.self.now.v4; v6 = c.step.new.self } in
-    reached6 settings course c.args.event.now c.in_ok-step.step dual c.args.v6 c.if-v6.true at.v4
-    (c.in_ok-step.ensures.next settings.v6 (nonce_for settings.nonce true) course.v6 at.v6)
+    called6 settings course event c.in_ok-step.step c.args.v6 c.if-v6.true same
 
 pub returns-in_ok-step-2-clause-steps : goal.returns-in_ok-step-2-clause-steps
 returns-in_ok-step-2-clause-steps c = λ settings course at.
@@ -22,10 +15,4 @@ returns-in_ok-step-2-clause-steps c = λ settings course at.
     let nonce = nonce_for settings.nonce false in
     let same = step_is (answer_of settings course false event) c.in_ok-step-2.step (c.in_ok-step-2.ensures.outcome settings.v4 nonce course.v4 at.v4)
     (c.in_ok-step-2.ensures.sends settings.v4 nonce course.v4 at.v4) (c.in_ok-step-2.ensures.deliver settings.v4 nonce course.v4 at.v4) in
-    called4 settings course event c.in_ok-step-2.step c.args.self.now c.args.v6 c.if-v6.false same
-
-pub returns-in_ok-step-2-clause-next : goal.returns-in_ok-step-2-clause-next
-returns-in_ok-step-2-clause-next c = λ settings course at.
-    let dual : Dual = record { v4 = c.step-else-v6.new.self; v6 = c.args.self.now.v6 } in
-    reached4 settings course c.args.event.now c.in_ok-step-2.step dual c.args.v6 c.if-v6.false
-    (c.in_ok-step-2.ensures.next settings.v4 (nonce_for settings.nonce false) course.v4 at.v4) at.v6
+    called4 settings course event c.in_ok-step-2.step c.args.v6 c.if-v6.false same

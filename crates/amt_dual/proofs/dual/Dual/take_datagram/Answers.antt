@@ -1,5 +1,4 @@
-use Rattle.std.proofs.Common.{ℕ, ◌≤◌, List, length, sym, ap, subst}
-use Rattle.gateway_machine.specs.declared.event.GatewayEvent.TheVariants.{Datagram as Heard}
+use Rattle.{std.proofs.Common.{ℕ, ◌≤◌, List, length, sym, ap, subst}, gateway_machine.specs.declared.event.GatewayEvent.TheVariants.{Datagram as Heard}}
 use Rattle.amt_dual.proofs.dual.Dual.take_datagram.Goals as goal
 
 pub take_heard-requires : goal.take_heard-requires

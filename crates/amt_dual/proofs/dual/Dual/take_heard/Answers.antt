@@ -1,6 +1,4 @@
-use Rattle.std.proofs.Common.{false, true, sym, ◌∙◌}
-use Rattle.amt_pair.proofs.PairStates.{on_err_by}
-use Rattle.amt_dual.{specs.Answers.{nonce_for}, proofs.{DualMachines.{after4, after6, answer_of, heard4, heard6, ignored_by_step, stays6, step_is, unheard6}, DualStates.{refused-ignored}}}
+use Rattle.{std.proofs.Common.{false, true, sym, ◌∙◌}, amt_pair.proofs.PairStates.{on_err_by}, amt_dual.{specs.Answers.{nonce_for}, proofs.{DualMachines.{after4, after6, answer_of, heard4, heard6, ignored_by_step, stays6, step_is, unheard6}, DualStates.{refused-ignored}}}}
 use Rattle.amt_dual.proofs.dual.Dual.take_heard.Goals as goal
 
 pub returns-then-not-was_ignored-clause-steps : goal.returns-then-not-was_ignored-clause-steps

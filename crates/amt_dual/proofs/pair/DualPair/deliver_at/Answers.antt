@@ -1,6 +1,4 @@
-use Rattle.std.proofs.{Common.{◌≡◌, ◌≢◌, ◌+◌, ℕ, false, true, List, [], ◌∷◌, ◌++◌, get_or, set, refl, sym, ap, ◌∙◌, arith}, lemmas.{Bool.{cond-false, cond-true}, List.{get_or-set_other}}}
-use Rattle.amt_pair.{specs.{Members.{AreMembersAt}, Schedule.{Course, Member, answer_at, upwards_on, with_gateway_event}, State.{with_member_at}}, proofs.PairStates.{on_err_by, up_more}}
-use Rattle.amt_dual.{specs.{Answers.{is_ignored}, InTurn.{part_of}, Parts.{machine_part}, declared.step.DualPart.{DualPart}}, proofs.{DualStates.{ignored_by, machine_part_is, refused-ignored, same_pair, stands_by}, TwinPlaces.{twin-first, twin-second}}}
+use Rattle.{std.proofs.{Common.{◌≡◌, ◌≢◌, ◌+◌, ℕ, false, true, List, [], ◌∷◌, ◌++◌, get_or, set, refl, sym, ap, ◌∙◌, arith}, lemmas.{Bool.{cond-false, cond-true}, List.{get_or-set_other}}}, amt_pair.{specs.{Members.{AreMembersAt}, Schedule.{Course, Member, answer_at, upwards_on, with_gateway_event}, State.{with_member_at}}, proofs.PairStates.{on_err_by, up_more}}, amt_dual.{specs.{Answers.{is_ignored}, InTurn.{part_of}, Parts.{machine_part}, declared.step.DualPart.{DualPart}}, proofs.{DualStates.{ignored_by, machine_part_is, refused-ignored, same_pair, stands_by}, TwinPlaces.{twin-first, twin-second}}}}
 use Rattle.amt_dual.proofs.pair.DualPair.deliver_at.Goals as goal
 
 pub take_at-requires-clause-event : goal.take_at-requires-clause-event

@@ -1,6 +1,4 @@
-use Rattle.std.proofs.{Common.{Some, subst, ◌∙◌}, lemmas.Result.{IfOk-weaker}}
-use Rattle.amt_pair.{specs.Schedule.{Course}, proofs.PairStates.{if_ok_by}}
-use Rattle.amt_dual.{specs.{State.{StandsFor}, Schedule.{with_dual_pair_event}, declared.event.DualPairEvent.TheVariants.{Up}}, proofs.{UpDeliveries.{absent_up, delivered_up, not_sent, reached_up, stays_up, was_sent}}}
+use Rattle.{std.proofs.{Common.{Some, subst, ◌∙◌}, lemmas.Result.{IfOk-weaker}}, amt_pair.{specs.Schedule.{Course}, proofs.PairStates.{if_ok_by}}, amt_dual.{specs.{State.{StandsFor}, Schedule.{with_dual_pair_event}, declared.event.DualPairEvent.TheVariants.{Up}}, proofs.{UpDeliveries.{absent_up, delivered_up, not_sent, reached_up, stays_up, was_sent}}}}
 use Rattle.amt_dual.proofs.pair.DualPair.deliver_up.Goals as goal
 
 pub returns-in_default-clause-parts : goal.returns-in_default-clause-parts

@@ -1,7 +1,4 @@
-use Rattle.std.proofs.{Common.{◌≡◌, [], ◌∷◌, List, ℕ, None, sym, ◌∙◌, subst}, lemmas.Result.{IfOk-weaker}}
-use Rattle.amt_pair.specs.{Parts.{relay_step}, Schedule.{with_relay_event}}
-use Rattle.amt_dual.specs.{Parts.{dual_parts_of}, Schedule.{with_dual_pair_event}, State.{StandsFor}, declared.{event.DualPairEvent.{DualPairEvent}, step.DualPart.TheVariants.{Relay}}}
-use Rattle.relay_machine.specs.declared.event.Event.TheVariants.{Packet}
+use Rattle.{std.proofs.{Common.{◌≡◌, List, ℕ, None, sym, ◌∙◌, subst}, lemmas.Result.{IfOk-weaker}}, amt_pair.specs.{Schedule.{with_relay_event}}, amt_dual.specs.{Parts.{dual_parts_of}, Schedule.{with_dual_pair_event}, State.{StandsFor}, declared.{event.DualPairEvent.{DualPairEvent}}}, relay_machine.specs.declared.event.Event.TheVariants.{Packet}}
 use Rattle.amt_dual.proofs.pair.DualPair.step.Goals as goal
 
 pub returns-in-Rotate-clause-next : goal.returns-in-Rotate-clause-next
@@ -41,16 +38,3 @@ returns-in-Down-clause-next c = λ setup course stands.
     IfOk-weaker c.deliver_down.result _ _
     (λ step now full. subst (λ (event : DualPairEvent). StandsFor c.deliver_down.new.self setup (with_dual_pair_event setup course event)) (sym c.in-Down.is) now)
     (c.deliver_down.ensures.next setup course stands)
-
-pub returns-in-Rotate-clause-parts : goal.returns-in-Rotate-clause-parts
-returns-in-Rotate-clause-parts c = λ setup course stands.
-    IfOk-weaker c.take_at_relay.result _ _
-    (λ step are full. subst (λ (event : DualPairEvent). step.parts ≡ dual_parts_of setup course event) (sym c.in-Rotate.is) are)
-    (c.take_at_relay.ensures.parts setup course stands)
-
-pub returns-in_ok-bytes-in-Packet-clause-parts : goal.returns-in_ok-bytes-in-Packet-clause-parts
-returns-in_ok-bytes-in-Packet-clause-parts c = λ setup course stands.
-    IfOk-weaker c.take_at_relay-in-Packet.result _ _
-    (λ step are full. subst (λ (event : DualPairEvent). step.parts ≡ dual_parts_of setup course event) (sym c.in-Packet.is)
-    (subst (λ (octets : List ℕ). step.parts ≡ Relay (relay_step setup course (Packet octets)) ∷ []) (c.in_ok-bytes-in-Packet.ensures ∙ c.as_slice.ensures) are))
-    (c.take_at_relay-in-Packet.ensures.parts setup course stands)

@@ -1,7 +1,4 @@
-use Rattle.std.proofs.Common.{◌≡◌, [], ◌∷◌, ◌++◌, refl, ◌∙◌}
-use Rattle.relay_machine.specs.Answers.{sends_of}
-use Rattle.amt_pair.proofs.{PairStates.{down_more, on_err_by}, RelaySteps.{sender_change, sender_payload}}
-use Rattle.amt_dual.proofs.DualStates.{relay_part, same_pair}
+use Rattle.{std.proofs.Common.{◌≡◌, [], ◌∷◌, ◌++◌, refl, ◌∙◌}, relay_machine.specs.Answers.{sends_of}, amt_pair.proofs.{PairStates.{down_more, on_err_by}, RelaySteps.{sender_change, sender_payload}}, amt_dual.proofs.DualStates.{relay_part, same_pair}}
 use Rattle.amt_dual.proofs.pair.DualPair.take_at_relay.Goals as goal
 
 pub returns-in_err-keep_copies-clause-err : goal.returns-in_err-keep_copies-clause-err
