@@ -1,12 +1,5 @@
 -- What both ends agree on after a schedule of dual gateways, of the family of one machine.
-use Rattle.std.proofs.Common.{◌≡◌, ℕ, true, false, List, All, ap, ◌∙◌}
-use Rattle.amt_values.specs.{EndpointValue.{EndpointValue}, declared.address.Ip.{Ip}}
-use Rattle.endpoint_membership.specs.{Admission.{rows_admit}, declared.row.Row.{Row}}
-use Rattle.relay_machine.specs.{Answers.{After, rows_after}, Events.{now_of}}
-use Rattle.amt_pair.specs.{Agreement.{CountsInTime, IsActive, Names, wanted_then, wants_now}, Schedule.{Member}, Sent.{SentReport}}
-use Rattle.amt_pair.proofs.{BothEnds.{all-agree, named-agree, now-agree, rows-course, unnamed-unwanted}, Follows.{Stands}, Sights.{Sight}, ToldReports.{IsHeardIn}}
-use Rattle.amt_dual.specs.{Agreement.{IsMachineHeard, IsMachineInTime, dual_admits}, Family.{is_group_of}, Schedule.{IsDualPairEvent, dual_course_of}, Setup.{DualSetup, IsLawfulDualSetup, first_of, machines_in}, State.{DualPairAt}, declared.{event.DualPairEvent.{DualPairEvent}, pair.DualPair.{DualPair}}}
-use Rattle.amt_dual.proofs.{DualCourses.{dual-logged-after}, DualSteps.{listed, stands-after}, MachineSights.{last-seen, shows-family, sight_of}, Machines.{machine-own}}
+use Rattle.{std.proofs.Common.{◌≡◌, ℕ, true, false, List, All, ap, ◌∙◌}, amt_values.specs.{EndpointValue.{EndpointValue}, declared.address.Ip.{Ip}}, endpoint_membership.specs.{Admission.{rows_admit}, declared.row.Row.{Row}}, relay_machine.specs.{Answers.{After, rows_after}, Events.{now_of}}, amt_pair.specs.{Agreement.{CountsInTime, IsActive, Names, wanted_then, wants_now}, Schedule.{Member}, Sent.{SentReport}}, amt_pair.proofs.{BothEnds.{all-agree, named-agree, now-agree, rows-course, unnamed-unwanted}, Follows.{Stands}, Sights.{Sight}, ToldReports.{IsHeardIn}}, amt_dual.specs.{Agreement.{IsMachineHeard, IsMachineInTime, dual_admits}, Family.{is_group_of}, Schedule.{IsDualPairEvent, dual_course_of}, Setup.{DualSetup, IsLawfulDualSetup, first_of, machines_in}, State.{DualPairAt}, declared.{event.DualPairEvent.{DualPairEvent}, pair.DualPair.{DualPair}}}, amt_dual.proofs.{DualCourses.{dual-logged-after}, DualSteps.{listed, stands-after}, MachineSights.{last-seen, shows-family, sight_of}, Machines.{machine-own}}}
 
 module _ (setup : DualSetup) (schedule : List DualPairEvent) (machine : Member) (endpoint : EndpointValue) (report : SentReport) (lawful : IsLawfulDualSetup setup)
     (may : All (IsDualPairEvent (machines_in setup).hosts) schedule) (heard : IsMachineHeard setup schedule machine endpoint report) where

@@ -1,13 +1,6 @@
 -- Where dual schedules lead: what each event leaves holds after every schedule. The machines of a course are those of its
 -- setup, and its entries are the relay's accepted log.
-use Rattle.std.proofs.{Common.{◌≡◌, Bool, true, List, [], ◌∷◌, ◌++◌, map, fold, Option, None, Some, refl, sym, ap, ◌∙◌, subst}, lemmas.List.{map-append, Elements.{All-push}, Sums.{fold-append}}}
-use Rattle.endpoint_membership.specs.declared.change.Change.{Change}
-use Rattle.gateway_machine.specs.declared.event.GatewayEvent.{GatewayEvent, TheVariants.{Moment as Passes}}
-use Rattle.relay_machine.{specs.{Accepted.{accepted_back, accepted_log, entry_of, with_change}, declared.{event.Event.{Event, TheVariants.{Moment as MomentAt, Packet as PacketAt, Rotate as SecretAt}}, sends.OneSend.{OneSend}}}, proofs.Onward.{accepted-push}}
-use Rattle.amt_pair.specs.{Schedule.{Course, Entry, Member, Upward, delivery_down, delivery_up, numbered, up_delivered, with_entry, with_member_event, with_relay_event}, Setup.{Host, PairSetup}}
-use Rattle.amt_pair.proofs.{Courses.{changes_of, if_reached, reached-kept}, MembersAt.{host_at, hosts_are}}
-use Rattle.amt_dual.specs.{Schedule.{DualFitsItsType, DualMayCome, IsDualPairEvent, at_first, down_taken, dual_course_of, dual_pair_start, is_called, takes_delivery, with_dual_pair_event}, Setup.{DualSetup, machines_in}, State.{DualPairAt, StandsFor, machines}}
-use Rattle.amt_dual.specs.declared.{event.DualPairEvent.{DualPairEvent, TheVariants.{Down, Moment, Packet, Rotate, Socket, Up}}, pair.DualPair.{DualPair}}
+use Rattle.{std.proofs.{Common.{◌≡◌, Bool, true, List, [], ◌∷◌, ◌++◌, map, fold, Option, None, Some, refl, sym, ap, ◌∙◌, subst}, lemmas.List.{map-append, Elements.{All-push}, Sums.{fold-append}}}, endpoint_membership.specs.declared.change.Change.{Change}, gateway_machine.specs.declared.event.GatewayEvent.{GatewayEvent, TheVariants.{Moment as Passes}}, relay_machine.{specs.{Accepted.{accepted_back, accepted_log, entry_of, with_change}, declared.{event.Event.{Event, TheVariants.{Moment as MomentAt, Packet as PacketAt, Rotate as SecretAt}}, sends.OneSend.{OneSend}}}, proofs.Onward.{accepted-push}}, amt_pair.specs.{Schedule.{Course, Entry, Member, Upward, delivery_down, delivery_up, numbered, up_delivered, with_entry, with_member_event, with_relay_event}, Setup.{Host, PairSetup}}, amt_pair.proofs.{Courses.{changes_of, if_reached, reached-kept}, MembersAt.{host_at, hosts_are}}, amt_dual.specs.{Schedule.{DualFitsItsType, DualMayCome, IsDualPairEvent, at_first, down_taken, dual_course_of, dual_pair_start, is_called, takes_delivery, with_dual_pair_event}, Setup.{DualSetup, machines_in}, State.{DualPairAt, StandsFor, machines}}, amt_dual.specs.declared.{event.DualPairEvent.{DualPairEvent, TheVariants.{Down, Moment, Packet, Rotate, Socket, Up}}, pair.DualPair.{DualPair}}}
 
 -- one more event
 pub dual_course_of-more : (setup : DualSetup) (schedule : List DualPairEvent) (event : DualPairEvent)

@@ -1,12 +1,5 @@
 -- What a schedule shows of one machine of a dual gateway, of its family's part of the log, is in order.
-use Rattle.std.proofs.{Common.{◌≡◌, ℕ, ◌+◌, ◌≤◌, Bool, true, List, [], ◌∷◌, ◌++◌, All, Contains, Option, Some, None, refl, sym, ap, subst, ◌∙◌, append_assoc, append-nil}, lemmas.{Bool.{and_parts}, List.Elements.{All-contains, All-head, All-nil, All-tail, Contains-get_or}}}
-use Rattle.amt_values.specs.{Endpoint.{endpoint_of}, EndpointValue.{EndpointValue}}
-use Rattle.gateway_machine.specs.{Events.{IsEventOf}, declared.event.GatewayEvent.{GatewayEvent}}
-use Rattle.relay_machine.specs.{Accepted.{accepted_log}, Events.{now_of}, Settings.{membership_interval_ms}, declared.sends.OneSend.{OneSend}}
-use Rattle.amt_pair.specs.{Schedule.{Course, Member, Upward, has_name, numbered}, Setup.{Host, IsHost, PairSetup}}
-use Rattle.amt_pair.proofs.{CourseSteps.{stands-call, stands-down, stands-moment, stands-packet, stands-secret, stands-up}, Courses.{changes_of, now_of-nil}, Follows.{Stands, member_of}, GatewaySteps.{run-start}, Listed.{contains-host, numbered-among}, RelaySteps.{none-down}, Sights.{Sight}, Upwards.{IsHosted, IsUpward}}
-use Rattle.amt_dual.specs.{Agreement.{IsMachineInTime, is_of_machine}, Answers.{is_machine}, Schedule.{IsDualPairEvent, MayTake, down_taken, dual_course_of, is_called, takes_delivery, with_dual_pair_event}, Setup.{DualSetup, IsLawfulDualSetup, first_of, machines_in}, declared.event.DualPairEvent.{DualPairEvent, TheVariants.{Down, Moment, Packet, Rotate, Socket, Up}}}
-use Rattle.amt_dual.proofs.{DualCourses.{course_machines, dual-logged-after, dual_course_of-more, dual_course_of-none}, MachineSights.{sight-at, sight_of}, Machines.{alone-first, event-of, machine-own, machines-apart, machines-lawful}, TwinPlaces.{machine-is}}
+use Rattle.{std.proofs.{Common.{◌≡◌, ℕ, ◌+◌, ◌≤◌, Bool, true, List, [], ◌∷◌, ◌++◌, All, Contains, Option, Some, None, refl, sym, ap, subst, ◌∙◌, append_assoc, append-nil}, lemmas.{Bool.{and_parts}, List.Elements.{All-contains, All-head, All-nil, All-tail, Contains-get_or}}}, amt_values.specs.{Endpoint.{endpoint_of}, EndpointValue.{EndpointValue}}, gateway_machine.specs.{Events.{IsEventOf}, declared.event.GatewayEvent.{GatewayEvent}}, relay_machine.specs.{Accepted.{accepted_log}, Events.{now_of}, Settings.{membership_interval_ms}, declared.sends.OneSend.{OneSend}}, amt_pair.specs.{Schedule.{Course, Member, Upward, has_name, numbered}, Setup.{Host, IsHost, PairSetup}}, amt_pair.proofs.{CourseSteps.{stands-call, stands-down, stands-moment, stands-packet, stands-secret, stands-up}, Courses.{changes_of, now_of-nil}, Follows.{Stands, member_of}, GatewaySteps.{run-start}, Listed.{contains-host, numbered-among}, RelaySteps.{none-down}, Sights.{Sight}, Upwards.{IsHosted, IsUpward}}, amt_dual.specs.{Agreement.{IsMachineInTime, is_of_machine}, Answers.{is_machine}, Schedule.{IsDualPairEvent, MayTake, down_taken, dual_course_of, is_called, takes_delivery, with_dual_pair_event}, Setup.{DualSetup, IsLawfulDualSetup, first_of, machines_in}, declared.event.DualPairEvent.{DualPairEvent, TheVariants.{Down, Moment, Packet, Rotate, Socket, Up}}}, amt_dual.proofs.{DualCourses.{course_machines, dual-logged-after, dual_course_of-more, dual_course_of-none}, MachineSights.{sight-at, sight_of}, Machines.{alone-first, event-of, machine-own, machines-apart, machines-lawful}, TwinPlaces.{machine-is}}}
 
 -- each machine of a course is one of the setup
 pub listed : (setup : DualSetup) (schedule : List DualPairEvent) (machine : Member) → Contains (dual_course_of setup schedule).members machine

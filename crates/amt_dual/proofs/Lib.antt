@@ -1,5 +1,6 @@
 pub mod DualAgrees
 pub mod DualCourses
+pub mod DualMachines
 pub mod DualStates
 pub mod DualSteps
 pub mod MachineDeliveries
@@ -7,3 +8,4 @@ pub mod MachineSights
 pub mod Machines
 pub mod SideBySide
 pub mod TwinPlaces
+pub mod UpDeliveries

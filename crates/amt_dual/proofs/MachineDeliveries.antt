@@ -1,11 +1,5 @@
 -- An event that comes to one machine, to both machines of a gateway, or to none.
-use Rattle.std.proofs.{Common.{◌≡◌, ◌<◌, ℕ, suc, ◌+◌, not, Bool, true, false, List, [], ◌∷◌, ◌++◌, map, length, get_or, filter, flat_map, All, HoldsAt, Option, Some, if◌then◌else◌, refl, sym, ap, subst, ◌∙◌, arith, append-nil, append_assoc, true≢false, inl, inr}, lemmas.{Bool.{and_from, and_left, and_parts, cases_Bool, cond-false, cond-true, false_from_ne_true, not_from_false}, List.{get_or_default, Folds.{list_any_at, list_any_none}}}}
-use Rattle.std.specs.List.{AllWithin, list_any}
-use Rattle.amt_values.specs.{Endpoint.{endpoint_of}}
-use Rattle.gateway_machine.specs.declared.event.GatewayEvent.{GatewayEvent}
-use Rattle.relay_machine.specs.declared.sends.OneSend.{OneSend}
-use Rattle.amt_pair.{specs.{Members.{AreMembersAt, host_of}, OwnEndpoints.{HasOwnEndpoint}, Schedule.{Course, Member, Upward, answer_at, delivery_down, is_at, is_endpoint, numbered, upwards_on, with_gateway_event, with_member_event}, Setup.{Host, PairSetup}, State.{with_member_at}, declared.gateways.NamedGateway.{NamedGateway}}, proofs.{Alone.{NonePasses, PassesOnce, alone, filter_none}, Deliveries.{none_reached}, MembersAt.{host_at, hosts_are}}}
-use Rattle.amt_dual.{specs.{Answers.{is_ignored}, Parts.{down_parts, dual_parts_of, machine_part, machine_parts, or_absent}, Schedule.{down_taken, ignores, takes_delivery, with_dual_pair_event}, State.{twin_parts, with_twins_at}, Twins.{AreMachinesApart, are_twins}, declared.{event.DualPairEvent.TheVariants.{Down}, step.DualPart.{DualPart}}}, proofs.{SideBySide.{OnlyThere, same_place, side_by_side}, TwinPlaces.{AreMachinesAt, endpoints_alike, first_twins, is_there, machines_at, once_there, twin-first, twin-second}}}
+use Rattle.{std.proofs.{Common.{◌≡◌, ◌<◌, ℕ, suc, ◌+◌, not, Bool, true, false, List, [], ◌∷◌, ◌++◌, map, length, get_or, filter, flat_map, All, HoldsAt, Option, Some, if◌then◌else◌, refl, sym, ap, subst, ◌∙◌, arith, append-nil, append_assoc, true≢false, inl, inr}, lemmas.{Bool.{and_from, and_left, and_parts, cases_Bool, cond-false, cond-true, false_from_ne_true, not_from_false}, List.{get_or_default, Folds.{list_any_at, list_any_none}}}}, std.specs.List.{AllWithin, list_any}, amt_values.specs.{Endpoint.{endpoint_of}}, gateway_machine.specs.declared.event.GatewayEvent.{GatewayEvent}, relay_machine.specs.declared.sends.OneSend.{OneSend}, amt_pair.{specs.{Members.{AreMembersAt, host_of}, OwnEndpoints.{HasOwnEndpoint}, Schedule.{Course, Member, Upward, answer_at, delivery_down, is_at, is_endpoint, numbered, upwards_on, with_gateway_event, with_member_event}, Setup.{Host, PairSetup}, State.{with_member_at}, declared.gateways.NamedGateway.{NamedGateway}}, proofs.{Alone.{NonePasses, PassesOnce, alone, filter_none}, Deliveries.{none_reached}, MembersAt.{host_at, hosts_are}}}, amt_dual.{specs.{Answers.{is_ignored}, Parts.{down_parts, dual_parts_of, machine_part, machine_parts, or_absent}, Schedule.{down_taken, ignores, takes_delivery, with_dual_pair_event}, State.{twin_parts, with_twins_at}, Twins.{AreMachinesApart, are_twins}, declared.{event.DualPairEvent.TheVariants.{Down}, step.DualPart.{DualPart}}}, proofs.{SideBySide.{OnlyThere, same_place, side_by_side}, TwinPlaces.{AreMachinesAt, endpoints_alike, first_twins, is_there, machines_at, once_there, twin-first, twin-second}}}}
 
 module _ (event : GatewayEvent) (reaches : Member → Bool) (course : Course) where
   -- the course with these machines, and with what these of them send

@@ -1,13 +1,5 @@
 -- A course as it is seen of one machine of a dual gateway: its own datagrams, and of the accepted log what is of its family.
-use Rattle.std.proofs.{Common.{◌≡◌, ℕ, ◌⊎◌, ◌&&◌, Bool, true, false, cond, if◌then◌else◌, List, [], ◌∷◌, reverse, All, Option, Some, None, refl, sym, ap, subst, ◌∙◌, inl, inr}, lemmas.{Bool.{and_cases, and_parts, and_right, cases_Bool, cond-false, cond-true, false_from_ne_true, or_parts, true≢false}, List.{Elements.{All-filter, All-head, filter_agree}, Folds.{list_any_none}}, Map.Views.{tells_apart}}}
-use Rattle.amt_values.{specs.{EndpointValue.{EndpointValue}, Group.{is_forwardable}, declared.address.Ip.{Ip, TheVariants.{V4, V6}}}, proofs.Orders.{ip_order-exact}}
-use Rattle.source_filter.specs.declared.record.Record.{Record}
-use Rattle.endpoint_membership.specs.{EndpointGroup.{same_endpoint, same_group}, Log.{brought, on_group, records_at}, declared.change.Change.{Change, TheVariants.{Clear, Mark, Reported}}}
-use Rattle.gateway_machine.specs.{Answers.{same_peer}, Laws.{last_of}}
-use Rattle.relay_machine.specs.Updates.{forwardable_records}
-use Rattle.amt_pair.specs.{Entries.{is_change_of}, Schedule.{Entry, Upward}, Sent.{SentReport, report_of}, Setup.{Host}}
-use Rattle.amt_pair.proofs.{HeardQueries.{same_peer-is, same_peer-itself}, RelayEntries.{IsSightAt}, Sights.{ShowsGroup, Sight, is_seen_of, report_seen}, ToldReports.{IsLastSeen}, TunnelEntries.{in_group, reported-here}, Upwards.{IsOnFamily, IsUpward}}
-use Rattle.amt_dual.{specs.{Agreement.{IsLastOfFamily, is_of_family_at, is_of_machine}, Answers.{is_machine}, Family.{concerns_family, is_group_of, names_family}}, proofs.TwinPlaces.{machine-is}}
+use Rattle.{std.proofs.{Common.{◌≡◌, ℕ, ◌⊎◌, ◌&&◌, Bool, true, false, cond, if◌then◌else◌, List, [], ◌∷◌, reverse, All, Option, Some, None, refl, sym, ap, subst, ◌∙◌, inl, inr}, lemmas.{Bool.{and_cases, and_parts, and_right, cases_Bool, cond-false, cond-true, false_from_ne_true, or_parts, true≢false}, List.{Elements.{All-filter, All-head, filter_agree}, Folds.{list_any_none}}, Map.Views.{tells_apart}}}, amt_values.{specs.{EndpointValue.{EndpointValue}, Group.{is_forwardable}, declared.address.Ip.{Ip, TheVariants.{V4, V6}}}, proofs.Orders.{ip_order-exact}}, source_filter.specs.declared.record.Record.{Record}, endpoint_membership.specs.{EndpointGroup.{same_endpoint, same_group}, Log.{brought, on_group, records_at}, declared.change.Change.{Change, TheVariants.{Clear, Mark, Reported}}}, gateway_machine.specs.{Answers.{same_peer}, Laws.{last_of}}, relay_machine.specs.Updates.{forwardable_records}, amt_pair.specs.{Entries.{is_change_of}, Schedule.{Entry, Upward}, Sent.{SentReport, report_of}, Setup.{Host}}, amt_pair.proofs.{HeardQueries.{same_peer-is, same_peer-itself}, RelayEntries.{IsSightAt}, Sights.{ShowsGroup, Sight, is_seen_of, report_seen}, ToldReports.{IsLastSeen}, TunnelEntries.{in_group, reported-here}, Upwards.{IsOnFamily, IsUpward}}, amt_dual.{specs.{Agreement.{IsLastOfFamily, is_of_family_at, is_of_machine}, Answers.{is_machine}, Family.{concerns_family, is_group_of, names_family}}, proofs.TwinPlaces.{machine-is}}}
 
 -- ---- families
 

@@ -1,15 +1,5 @@
 -- The machines of dual gateways: each can be added to the relay, and no two have one peer and one family.
-use Rattle.std.proofs.{Common.{◌≡◌, ◌≢◌, suc, ◌&&◌, Bool, true, false, List, [], ◌∷◌, map, flat_map, filter, get_or, All, AllPairs, Contains, refl, sym, ap, subst, ◌∙◌, arith}, lemmas.{Bool.{and_from, and_parts}, List.{get_or-map, length-map, Elements.{All-cons, All-head, All-nil, All-tail, All-weaker}, Kept.{AllPairs-cons}}}}
-use Rattle.amt_values.specs.declared.peer.Peer.{Peer}
-use Rattle.group_records.specs.Written.{is_of_family}
-use Rattle.socket_merge.specs.FullReport.{family_by}
-use Rattle.gateway_machine.specs.{Answers.{same_peer}, Events.{IsEventOf, IsFilterOf}, declared.{event.GatewayEvent.{GatewayEvent, TheVariants.{Change, Datagram, Open}}, settings.GatewaySettings.{GatewaySettings}}}
-use Rattle.relay_machine.specs.declared.settings.Settings.{Settings}
-use Rattle.source_filter.specs.Filter.{FilterValue}
-use Rattle.amt_pair.specs.Setup.{Host, IsHost}
-use Rattle.amt_pair.proofs.{Alone.{PassesOnce, alone}, HeardQueries.{same_peer-is, same_peer-itself}, HostsApart.{apart_back}, MembersAt.{host_at}, PeerReports.{is_own_member}}
-use Rattle.amt_dual.specs.{Answers.{is_machine}, Schedule.{at_first}, Setup.{DualHost, IsDualHost, machine_of, machines_of}, Twins.{peer_and_family}}
-use Rattle.amt_dual.proofs.{DualCourses.{start_machines}, MachineSights.{sight_of}, TwinPlaces.{machine-is, machine-itself}}
+use Rattle.{std.proofs.{Common.{◌≡◌, ◌≢◌, suc, ◌&&◌, Bool, true, false, List, [], ◌∷◌, map, flat_map, filter, get_or, All, AllPairs, Contains, refl, sym, ap, subst, ◌∙◌, arith}, lemmas.{Bool.{and_from, and_parts}, List.{get_or-map, length-map, Elements.{All-cons, All-head, All-nil, All-tail, All-weaker}, Kept.{AllPairs-cons}}}}, amt_values.specs.declared.peer.Peer.{Peer}, group_records.specs.Written.{is_of_family}, socket_merge.specs.FullReport.{family_by}, gateway_machine.specs.{Answers.{same_peer}, Events.{IsEventOf, IsFilterOf}, declared.{event.GatewayEvent.{GatewayEvent, TheVariants.{Change, Datagram, Open}}, settings.GatewaySettings.{GatewaySettings}}}, relay_machine.specs.declared.settings.Settings.{Settings}, source_filter.specs.Filter.{FilterValue}, amt_pair.specs.Setup.{Host, IsHost}, amt_pair.proofs.{Alone.{PassesOnce, alone}, HeardQueries.{same_peer-is, same_peer-itself}, HostsApart.{apart_back}, MembersAt.{host_at}, PeerReports.{is_own_member}}, amt_dual.specs.{Answers.{is_machine}, Schedule.{at_first}, Setup.{DualHost, IsDualHost, machine_of, machines_of}, Twins.{peer_and_family}}, amt_dual.proofs.{DualCourses.{start_machines}, MachineSights.{sight_of}, TwinPlaces.{machine-is, machine-itself}}}
 
 -- the machines differ in their peers or their families
 abbrev pub AreOther : Host → Host → Type 0

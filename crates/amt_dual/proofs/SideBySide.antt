@@ -1,6 +1,5 @@
 -- Lists in which two items alone pass a test, one after the other.
-use Rattle.std.proofs.{Common.{◌≡◌, ℕ, zero, suc, ◌<◌, Bool, true, false, List, [], ◌∷◌, ◌++◌, map, length, get_or, set, filter, All, AllPairs, ap, ◌∙◌, subst, arith, append_assoc, inl, inr}, lemmas.{Bool.{cases_order}, List.{Elements.{All-push}, Quantifiers.{all_pairs_push}}}}
-use Rattle.amt_pair.proofs.Alone.{NonePasses, PassesOnce, changed, filter_none, map_none}
+use Rattle.{std.proofs.{Common.{◌≡◌, ℕ, zero, suc, ◌<◌, Bool, true, false, List, [], ◌∷◌, ◌++◌, map, length, get_or, set, filter, All, AllPairs, ap, ◌∙◌, subst, arith, append_assoc, inl, inr}, lemmas.{Bool.{cases_order}, List.{Elements.{All-push}, Quantifiers.{all_pairs_push}}}}, amt_pair.proofs.Alone.{NonePasses, PassesOnce, changed, filter_none, map_none}}
 
 module _ {X : Type 0} (test : X → Bool) where
   -- none passes but those at the place and after it

@@ -1,10 +1,5 @@
 -- The machines of dual gateways: the one that is found is the IPv4 one, and the IPv6 one follows it; and they are apart.
-use Rattle.std.{proofs.{Common.{◌≡◌, ◌≢◌, ℕ, zero, suc, ◌<◌, ◌||◌, ◌&&◌, not, Bool, true, false, HoldsAt, List, [], ◌∷◌, ◌++◌, map, length, get_or, All, Contains, Option, Some, IfSome, refl, sym, ap, ◌∙◌, subst, subst₂, arith, true≢false, inl, inr}, lemmas.{Bool.{and_from, and_parts, cases_order, not-true, not_from_false, or_left, or_right}, List.{get_or_default, get_or-map, length-map, Folds.{list_any_at}}}}, specs.{Cmp.{nat_eq_equiv, Lexicographic.{lists_equiv, same_text}}, List.{AllWithin}}}
-use Rattle.amt_values.specs.{Endpoint.{endpoint_of}, EndpointValue.{EndpointValue}, declared.peer.Peer.{Peer}}
-use Rattle.gateway_machine.specs.{Answers.{same_peer}, Runs.{settings_of}}
-use Rattle.socket_merge.specs.History.{same_name}
-use Rattle.amt_pair.{specs.{Members.{AreMembersAt, host_of}, OwnEndpoints.{HasOwnEndpoint}, Schedule.{Member, has_name, is_at, is_endpoint}, Setup.{Host, has_taken}, declared.gateways.NamedGateway.{NamedGateway}}, proofs.{Alone.{PassesOnce}, HeardQueries.{same_peer-is, same_peer-itself}, HostsApart.{apart_back, peers_at}, MembersAt.{are_at, host_at, host_is, lengths_are}}}
-use Rattle.amt_dual.{specs.{Answers.{is_machine}, Schedule.{is_called}, Twins.{AreMachinesApart, are_of_one, are_twins, name_and_family, peer_and_family}}, proofs.SideBySide.{holds_map, two_apart}}
+use Rattle.{std.{proofs.{Common.{◌≡◌, ◌≢◌, ℕ, zero, suc, ◌<◌, ◌||◌, ◌&&◌, not, Bool, true, false, HoldsAt, List, [], ◌∷◌, ◌++◌, map, length, get_or, All, Contains, Option, Some, IfSome, refl, sym, ap, ◌∙◌, subst, subst₂, arith, true≢false, inl, inr}, lemmas.{Bool.{and_from, and_parts, cases_order, not-true, not_from_false, or_left, or_right}, List.{get_or_default, get_or-map, length-map, Folds.{list_any_at}}}}, specs.{Cmp.{nat_eq_equiv, Lexicographic.{lists_equiv, same_text}}, List.{AllWithin}}}, amt_values.specs.{Endpoint.{endpoint_of}, EndpointValue.{EndpointValue}, declared.peer.Peer.{Peer}}, gateway_machine.specs.{Answers.{same_peer}, Runs.{settings_of}}, socket_merge.specs.History.{same_name}, amt_pair.{specs.{Members.{AreMembersAt, host_of}, OwnEndpoints.{HasOwnEndpoint}, Schedule.{Member, has_name, is_at, is_endpoint}, Setup.{Host, has_taken}, declared.gateways.NamedGateway.{NamedGateway}}, proofs.{Alone.{PassesOnce}, HeardQueries.{same_peer-is, same_peer-itself}, HostsApart.{apart_back, peers_at}, MembersAt.{are_at, host_at, host_is, lengths_are}}}, amt_dual.{specs.{Answers.{is_machine}, Schedule.{is_called}, Twins.{AreMachinesApart, are_of_one, are_twins, name_and_family, peer_and_family}}, proofs.SideBySide.{holds_map, two_apart}}}
 
 -- ---- twins
 

@@ -1,7 +1,7 @@
 //! A gateway of both families: two machines on one socket. It knows no message.
 
-ghost use Rattle.std.specs.Prelude.{◌≡◌};
-ghost use Rattle.amt_dual.specs.Answers.{is_ignored};
+ghost use Rattle.std.specs.Prelude.{◌≡◌, true};
+ghost use Rattle.amt_dual.specs.Answers.{is_ignored, nonce_for};
 
 use crate::event::DualEvent;
 use crate::step::DualStep;
@@ -31,8 +31,9 @@ pub struct Dual {
 }
 
 impl Dual {
-    ghost use Rattle.std.specs.Prelude.{◌≡◌, ◌≤◌, ◌||◌, length, Bool, true, false, is_some, IfOk, OnErr};
-    ghost use Rattle.gateway_machine.specs.{Answers.{call_in}, Events.{IsEventOf}};
+    ghost use Rattle.std.specs.Prelude.{◌≡◌, ◌≤◌, ◌||◌, ℕ, List, length, Bool, true, false, is_some, IfOk, OnErr};
+    ghost use Rattle.amt_values.specs.declared.peer.Peer.{Peer as PeerValue};
+    ghost use Rattle.gateway_machine.specs.{Answers.{call_in}, Events.{IsEventOf}, declared.{event.GatewayEvent.TheVariants.{Datagram as Heard}, settings.GatewaySettings.{GatewaySettings as MachineSettings}}};
     ghost use Rattle.socket_merge.specs.Interface.{wants};
     ghost use Rattle.amt_dual.specs.Answers.{AreLawfulMachines, AreSteps, DualAfter, DualAt, HasStarvedBetween, HaveRefused, MayComeTo, dual_start, machine_run, settings_at, with_dual_event};
     ghost use Rattle.amt_dual.specs.declared.event.DualEvent.TheVariants as events;
@@ -50,7 +51,7 @@ impl Dual {
     {
         Ok(Dual {
             v4: Gateway::new(alloc, v4, nonce)?,
-            v6: Gateway::new(alloc, v6, nonce.wrapping_add(NONCES_APART))?,
+            v6: Gateway::new(alloc, v6, nonce6(nonce))?,
         })
     }
 
@@ -137,11 +138,23 @@ impl Dual {
         ensures err { OnErr result (self.new ≡ self.old) }
         ensures same { IfOk result (λ step. HaveRefused step → self.new ≡ self.old) }
     {
-        let event = GatewayEvent::Datagram {
-            from: *from,
-            bytes: Bytes::copied(alloc, bytes)?,
-        };
-        let v4 = self.v4.step(alloc, &event)?;
+        let bytes = Bytes::copied(alloc, bytes)?;
+        self.take_heard(alloc, &GatewayEvent::Datagram { from: *from, bytes })
+    }
+
+    // The datagram of this event does. Apart from the copy, so that it isn't alive where a step ends early.
+    fn take_heard(&mut self, alloc: Global, event: &GatewayEvent) -> Result<DualStep, AllocError>
+        requires { (settings : MachineSettings) → IsEventOf settings event.now }
+        ensures steps { DualAfter self.old (λ settings course. (from : PeerValue) (bytes : List ℕ) → event.now ≡ Heard from bytes
+            → IfOk result (AreSteps settings course (events.Datagram from bytes))) }
+        ensures next { DualAfter self.old (λ settings course. (from : PeerValue) (bytes : List ℕ) → event.now ≡ Heard from bytes
+            → IfOk result (λ _. DualAt self.new settings (with_dual_event settings course (events.Datagram from bytes)))) }
+        ensures all { IfOk result (λ step. step.starved ≡ false) }
+        ensures settings { (family : Bool) → settings_at self.new family ≡ settings_at self.old family }
+        ensures err { OnErr result (self.new ≡ self.old) }
+        ensures same { IfOk result (λ step. HaveRefused step → self.new ≡ self.old) }
+    {
+        let v4 = self.v4.step(alloc, event)?;
         if !was_ignored(&v4) {
             return Ok(DualStep {
                 v4: Some(v4),
@@ -149,7 +162,7 @@ impl Dual {
                 starved: false,
             });
         }
-        let v6 = self.v6.step(alloc, &event)?;
+        let v6 = self.v6.step(alloc, event)?;
         Ok(DualStep {
             v4: Some(v4),
             v6: Some(v6),
@@ -191,6 +204,13 @@ impl Dual {
             })
         }
     }
+}
+
+// The first nonce of the IPv6 machine, by that of the IPv4 one.
+fn nonce6(nonce: u32) -> u32
+    ensures { result ≡ nonce_for nonce true }
+{
+    nonce.wrapping_add(NONCES_APART)
 }
 
 // Whether a datagram was ignored.

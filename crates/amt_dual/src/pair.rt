@@ -379,12 +379,12 @@ impl DualPair {
         let mut parts = Vec::with_capacity(alloc, 2)?;
         let next = self.next_place(place);
         let v4 = self.gateways.take_at(alloc, place, event, &mut self.up)?;
-        if !was_ignored(&v4) {
-            parts.push_reserved(part_of(v4, false));
+        let ignored = was_ignored(&v4);
+        parts.push_reserved(part_of(v4, false));
+        if !ignored {
             return Ok(self.step_of(parts, false));
         }
         let v6 = self.gateways.take_at(alloc, next, event, &mut self.up)?;
-        parts.push_reserved(part_of(v4, false));
         parts.push_reserved(part_of(v6, true));
         Ok(self.step_of(parts, false))
     }

@@ -1,10 +1,10 @@
 -- The first reason why a line gives no gateway.
-use Rattle.std.proofs.Common.{◌≡◌, ◌≢◌, ◌↔◌, ℕ, ◌⊎◌, Bool, true, false, List, [], ◌∷◌, IsTrue, inl, inr, refl, sym, subst, ◌∙◌}
+use Rattle.std.proofs.Common.{◌≡◌, ◌≢◌, ◌↔◌, ℕ, ◌⊎◌, Bool, true, false, List, [], ◌∷◌, IsTrue, codes, inl, inr, refl, sym, subst, ◌∙◌}
 use Rattle.amt_values.{specs.{Text.{IsIpText, IsPeerText}, declared.{address.Ip.TheVariants.{V4, V6}, peer.Peer.{Peer}}, Conditions.{First}}, proofs.Unique.{IsPeerText-unique}}
 use Rattle.script_lines.specs.{Form.{Fails, an_address4, an_address6}, Reading.{FailsFirst}, declared.fault.LineError.{LineError, TheVariants.{Bad, Memory}}}
 use Rattle.script_lines.specs.declared.reason.Reason.TheVariants as reasons
 use Rattle.pair_script.specs.{Fault.{order_of_reasons, order_of_values}, Opening.{IsGatewayName}}
-use Rattle.amt_dual_script.specs.{Fault.{FailsAsGateway, FailsToAdd, HasNoSources, IsGivenTwice, RepeatsPeer}, Gateways.{is_peer_given}, declared.script.{DualGateway.{DualGateway}, DualItem.{DualItem}}}
+use Rattle.amt_dual_script.specs.{Fault.{FailsAsGateway, FailsToAdd, HasNoSources, IsGivenTwice, RepeatsPeer}, Gateways.{is_peer_given}, Says.{SaysGateway}, Script.{MayAdd}, declared.script.{DualGateway.{DualGateway}, DualItem.{DualItem}}}
 
 pub peer_repeated : (gateways : List DualGateway) (values rest : List (List ℕ)) (text : List ℕ) (peer : Peer) (given : Bool) → values ≡ text ∷ rest → IsPeerText peer text
     → given ≡ is_peer_given gateways peer → IsTrue given ↔ RepeatsPeer gateways values
@@ -74,3 +74,20 @@ pub value_first : (gateways : List DualGateway) (items : List DualItem) (values 
     → (IsGivenTwice gateways values → ⊥) → FailsFirst (FailsAsGateway values) order_of_values error → FailsFirst (FailsToAdd gateways items values) order_of_reasons error
 value_first gateways items values (Bad reason) early new first = inr (λ h. h, inr (λ late. late early, inr (new, first)))
 value_first gateways items values Memory early new first = tt
+
+-- ---- a gateway that may be added
+
+false_where : (test : Bool) → (test ≡ true → ⊥) → test ≡ false
+false_where true never = absurd (never refl)
+false_where false never = refl
+
+pub may_add : (gateways : List DualGateway) (items : List DualItem) (values : List (List ℕ)) (gateway : DualGateway) → items ≡ [] → (IsGivenTwice gateways values → ⊥)
+    → SaysGateway gateway (codes "gateway" ∷ values) → MayAdd gateways items gateway
+may_add gateways items values gateway early new says =
+    let said = says.parts in
+    let parts : values ≡ gateway.name ∷ says.peer ∷ says.source4 ∷ says.source6 ∷ [] = cc in
+    let fresh = subst (λ (vs : List (List ℕ)). IsGivenTwice gateways vs → ⊥) parts new in
+    record {
+      early = early;
+      new = record { name = false_where _ (λ h. fresh (inl h)); peer = false_where _ (λ h. fresh (inr (gateway.peer, says.names_peer, h))) };
+    }

@@ -9,5 +9,6 @@ pub mod Lawful
 pub mod Machines
 pub mod Running
 pub mod SetUp
+pub mod SharedLines
 pub mod Steps
 pub mod Unique

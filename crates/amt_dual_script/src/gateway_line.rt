@@ -70,6 +70,14 @@ fn texts_of(values: &[u8]) -> Option<GatewayTexts<'_>>
     }
 }
 
+// The source of MLDv2 reports.
+fn read_source6(text: &[u8]) -> Option<u128>
+    ensures found { IfSome result (λ source. IsIpText (V6 source) text.now) }
+    ensures none { IfNone result (Fails an_address6 text.now Reason.Address) }
+{
+    read_address6(text)
+}
+
 // The source of IGMPv3 reports, and that of MLDv2 reports: an address of either family.
 fn read_sources(text4: &[u8], text6: &[u8]) -> Option<(u32, u128)>
     ensures found4 { IfSome result (λ sources. IsIpText (V4 sources.0) text4.now) }
@@ -79,7 +87,7 @@ fn read_sources(text4: &[u8], text6: &[u8]) -> Option<(u32, u128)>
     let Some(source4) = read_address4(text4) else {
         return None;
     };
-    let Some(source6) = read_address6(text6) else {
+    let Some(source6) = read_source6(text6) else {
         return None;
     };
     Some((source4, source6))

@@ -1,5 +1,4 @@
-use Rattle.std.proofs.Common.{◌≡◌, ◌≤◌, ◌+◌, ◌++◌, false, length, vec_len, vec_capacity}
-use Rattle.amt_dual.specs.InTurn.{parts_in_turn}
+use Rattle.{std.proofs.Common.{◌≡◌, ◌≤◌, ◌+◌, ◌++◌, false, length, vec_len, vec_capacity}, amt_dual.specs.InTurn.{parts_in_turn}}
 use Rattle.amt_dual.proofs.parts.push_in_turn.Given as goal
 
 abbrev pub invariant-loop-part : goal.invariant-loop-part

@@ -1,5 +1,4 @@
-use Rattle.std.proofs.Common.{false, true}
-use Rattle.amt_dual.specs.Answers.{nonce_for}
+use Rattle.{std.proofs.Common.{false, true}, amt_dual.specs.Answers.{nonce_for}}
 use Rattle.amt_dual.proofs.dual.Dual.take_moment.Goals as goal
 
 pub returns-in-Ok-clause-next : goal.returns-in-Ok-clause-next

@@ -1,8 +1,4 @@
-use Rattle.std.proofs.{Common.{◌≡◌, true, false, [], ◌∷◌, ◌++◌, All, map, sym, ap, ◌∙◌, arith}, lemmas.List.Elements.{All-push}}
-use Rattle.amt_values.{proofs.OnePeer.{peer_again}}
-use Rattle.amt_pair.specs.{Members.{host_of}, OwnEndpoints.{HasOwnEndpoint}, Setup.{Host, has_taken, relay_peer}}
-use Rattle.amt_dual.specs.{Setup.{DualHost, DualSetup, IsDualHost, machine_of, machines_in}, State.{StandsFor, machines}, Schedule.{dual_pair_start}, Twins.{AreMachinesApart, are_twins}}
-use Rattle.amt_dual.proofs.{DualStates.{after_append, dual_apart_more, dual_pair_at_start, gateways_free, hosts_more, machines_at_start, members_more_at_start, stands_at_start, twins_of}, SideBySide.{two_more}, TwinPlaces.{all_free, machines_apart_more, twins_more}}
+use Rattle.{std.proofs.{Common.{◌≡◌, true, false, [], ◌∷◌, ◌++◌, All, map, sym, ap, ◌∙◌, arith}, lemmas.List.Elements.{All-push}}, amt_values.{proofs.OnePeer.{peer_again}}, amt_pair.specs.{Members.{host_of}, OwnEndpoints.{HasOwnEndpoint}, Setup.{Host, has_taken, relay_peer}}, amt_dual.specs.{Setup.{DualHost, DualSetup, IsDualHost, machine_of, machines_in}, State.{StandsFor, machines}, Schedule.{dual_pair_start}, Twins.{AreMachinesApart, are_twins}}, amt_dual.proofs.{DualStates.{after_append, dual_apart_more, dual_pair_at_start, gateways_free, hosts_more, machines_at_start, members_more_at_start, stands_at_start, twins_of}, SideBySide.{two_more}, TwinPlaces.{all_free, machines_apart_more, twins_more}}}
 use Rattle.amt_dual.proofs.pair.DualPair.add.Goals as goal
 
 pub invariant_of-self-clause-twins : goal.invariant_of-self-clause-twins

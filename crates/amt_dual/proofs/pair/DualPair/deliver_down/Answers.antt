@@ -1,10 +1,4 @@
-use Rattle.std.proofs.{Common.{◌≡◌, ◌≤◌, ℕ, List, [], length, Some, refl, sym, ap, ◌∙◌, subst, arith}, lemmas.{List.{length-map}, Result.{IfOk-weaker}}}
-use Rattle.amt_values.specs.Endpoint.{endpoint_of}
-use Rattle.gateway_machine.specs.declared.event.GatewayEvent.{GatewayEvent}
-use Rattle.relay_machine.specs.declared.sends.OneSend.{OneSend}
-use Rattle.amt_pair.specs.{Members.{host_of}, Schedule.{Course, delivery_down, is_endpoint, numbered}, Setup.{Host, relay_peer}}
-use Rattle.amt_pair.proofs.{Numbers.{all_numbered, is_delivery_down}, MembersAt.{none_at}, PairStates.{if_ok_by}}
-use Rattle.amt_dual.{specs.{Schedule.{with_dual_pair_event}, State.{StandsFor, twin_parts, with_twins_at}, declared.event.DualPairEvent.TheVariants.{Down}}, proofs.{DualStates.{on_err_also, same_pair}, MachineDeliveries.{dual_down_parts, dual_down_reaches, none_delivered, reached_at}, TwinPlaces.{endpoints_alike, first_twins}}}
+use Rattle.{std.proofs.{Common.{◌≡◌, ◌≤◌, ℕ, List, [], length, Some, refl, sym, ap, ◌∙◌, subst, arith}, lemmas.{List.{length-map}, Result.{IfOk-weaker}}}, amt_values.specs.Endpoint.{endpoint_of}, gateway_machine.specs.declared.event.GatewayEvent.{GatewayEvent}, relay_machine.specs.declared.sends.OneSend.{OneSend}, amt_pair.specs.{Members.{host_of}, Schedule.{Course, delivery_down, is_endpoint, numbered}, Setup.{Host, relay_peer}}, amt_pair.proofs.{Numbers.{all_numbered, is_delivery_down}, MembersAt.{none_at}, PairStates.{if_ok_by}}, amt_dual.{specs.{Schedule.{with_dual_pair_event}, State.{StandsFor, twin_parts, with_twins_at}, declared.event.DualPairEvent.TheVariants.{Down}}, proofs.{DualStates.{on_err_also, same_pair}, MachineDeliveries.{dual_down_parts, dual_down_reaches, none_delivered, reached_at}, TwinPlaces.{endpoints_alike, first_twins}}}}
 use Rattle.amt_dual.proofs.pair.DualPair.deliver_down.Goals as goal
 
 pub returns-in_default-place_of_endpoint-clause-parts : goal.returns-in_default-place_of_endpoint-clause-parts

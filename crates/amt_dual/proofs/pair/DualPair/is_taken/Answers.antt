@@ -1,5 +1,4 @@
-use Rattle.std.proofs.Common.{sym, ◌∙◌}
-use Rattle.amt_pair.proofs.MembersAt.{taken_by}
+use Rattle.{std.proofs.Common.{sym, ◌∙◌}, amt_pair.proofs.MembersAt.{taken_by}}
 use Rattle.amt_dual.proofs.pair.DualPair.is_taken.Goals as goal
 
 pub returns : goal.returns

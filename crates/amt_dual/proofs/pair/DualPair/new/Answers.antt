@@ -1,6 +1,4 @@
-use Rattle.std.proofs.{Common.{◌≡◌, List, [], true, All, map, refl, sym, ap, subst}, lemmas.List.Elements.{All-nil}}
-use Rattle.amt_pair.specs.{Members.{AreMembersAt, host_of}, OwnEndpoints.{HasOwnEndpoint}, Setup.{Host, relay_peer}, declared.gateways.NamedGateway.{NamedGateway}}
-use Rattle.amt_dual.{specs.{Setup.{IsDualHost}, Twins.{AreMachinesApart, are_twins}}, proofs.{DualStates.{dual_pair_at_start, none_dual_apart}, TwinPlaces.{none_machines_apart}}}
+use Rattle.{std.proofs.{Common.{◌≡◌, List, [], true, All, map, refl, sym, ap, subst}, lemmas.List.Elements.{All-nil}}, amt_pair.specs.{Members.{AreMembersAt, host_of}, OwnEndpoints.{HasOwnEndpoint}, Setup.{Host, relay_peer}, declared.gateways.NamedGateway.{NamedGateway}}, amt_dual.{specs.{Setup.{IsDualHost}, Twins.{AreMachinesApart, are_twins}}, proofs.{DualStates.{dual_pair_at_start, none_dual_apart}, TwinPlaces.{none_machines_apart}}}}
 use Rattle.amt_dual.proofs.pair.DualPair.new.Goals as goal
 
 pub invariant_of-result-clause-peer_is : goal.invariant_of-result-clause-peer_is

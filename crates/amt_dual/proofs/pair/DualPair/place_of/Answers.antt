@@ -1,6 +1,4 @@
-use Rattle.std.proofs.Common.{◌≡◌, ℕ, suc, Bool, sym, subst, subst₂, arith}
-use Rattle.amt_pair.proofs.PairStates.{some_named}
-use Rattle.amt_dual.proofs.TwinPlaces.{IsCalledAt, first_called, next_called}
+use Rattle.{std.proofs.Common.{◌≡◌, ℕ, suc, Bool, sym, subst, subst₂, arith}, amt_pair.proofs.PairStates.{some_named}, amt_dual.proofs.TwinPlaces.{IsCalledAt, first_called, next_called}}
 use Rattle.amt_dual.proofs.pair.DualPair.place_of.Goals as goal
 
 pub unwrap-first-requires : goal.unwrap-first-requires

@@ -1,5 +1,4 @@
-use Rattle.std.proofs.lemmas.Result.{IfOk-weaker}
-use Rattle.amt_dual.proofs.DualAgrees.{rows-agree}
+use Rattle.{std.proofs.lemmas.Result.{IfOk-weaker}, amt_dual.proofs.DualAgrees.{rows-agree}}
 use Rattle.amt_dual.proofs.pair.DualPair.rows.Goals as goal
 
 pub returns-clause-agree : goal.returns-clause-agree

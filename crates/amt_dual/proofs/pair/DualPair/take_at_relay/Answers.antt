@@ -1,7 +1,4 @@
-use Rattle.std.proofs.Common.{◌≡◌, [], refl, ◌∙◌}
-use Rattle.relay_machine.specs.Answers.{sends_of}
-use Rattle.amt_pair.proofs.{PairStates.{down_more, on_err_by}, RelaySteps.{sender_change, sender_payload}}
-use Rattle.amt_dual.proofs.DualStates.{same_pair}
+use Rattle.{std.proofs.Common.{◌≡◌, [], ◌∷◌, ◌++◌, refl, ◌∙◌}, relay_machine.specs.Answers.{sends_of}, amt_pair.proofs.{PairStates.{down_more, on_err_by}, RelaySteps.{sender_change, sender_payload}}, amt_dual.proofs.DualStates.{relay_part, same_pair}}
 use Rattle.amt_dual.proofs.pair.DualPair.take_at_relay.Goals as goal
 
 pub returns-in_err-keep_copies-clause-err : goal.returns-in_err-keep_copies-clause-err
@@ -27,3 +24,11 @@ returns-clause-next c = λ setup course stands by. record {
       (sends_of setup.settings setup.secret course.relay c.args.event.now) c.as_slice.result.now stands.down c.as_slice.ensures
       (c.in_ok-step.ensures.sends setup.settings setup.secret course.relay stands.relay) c.in_ok-keep_copies.ensures.kept;
 }
+
+pub returns-clause-parts : goal.returns-clause-parts
+returns-clause-parts c = λ setup course stands.
+    let first = relay_part setup course c.args.event.now c.in_ok-step.step
+    (c.in_ok-step.ensures.outcome setup.settings setup.secret course.relay stands.relay)
+    (c.in_ok-step.ensures.sends setup.settings setup.secret course.relay stands.relay)
+    (c.in_ok-step.ensures.change setup.settings setup.secret course.relay stands.relay) in
+    c.step_of.ensures.parts ∙ c.push_reserved.ensures.items ∙ (λ i. c.in_ok-parts.ensures.items i ++ first i ∷ [])

@@ -1,6 +1,4 @@
-use Rattle.std.proofs.Common.{◌≡◌, [], ◌∷◌, ◌++◌, sym, ap, ◌∙◌}
-use Rattle.amt_pair.{specs.{Schedule.{upwards_on}, State.{with_member_at}}, proofs.PairStates.{up_more}}
-use Rattle.amt_dual.{specs.{InTurn.{part_of}}, proofs.DualStates.{called_one, machine_may_come, machine_part_is, stands_by}}
+use Rattle.{std.proofs.Common.{◌≡◌, [], ◌∷◌, ◌++◌, sym, ap, ◌∙◌}, amt_pair.{specs.{Schedule.{upwards_on}, State.{with_member_at}}, proofs.PairStates.{up_more}}, amt_dual.{specs.{InTurn.{part_of}}, proofs.DualStates.{called_one, machine_may_come, machine_part_is, stands_by}}}
 use Rattle.amt_dual.proofs.pair.DualPair.take_call.Goals as goal
 
 pub place_of-place-requires : goal.place_of-place-requires

@@ -1,8 +1,4 @@
-use Rattle.std.proofs.{Common.{◌≡◌, true, List, [], ◌∷◌, ◌++◌, refl, sym, ap, ◌∙◌, flat_map, false, take, append-nil, subst}, lemmas.Bool.{not-false, not-true}}
-use Rattle.gateway_machine.specs.declared.event.GatewayEvent.TheVariants.{Moment as Passes}
-use Rattle.relay_machine.specs.declared.event.Event.TheVariants.{Moment}
-use Rattle.amt_pair.{specs.{Parts.{gateway_parts}, Schedule.{upwards_on}, Setup.{Host}, declared.step.Part.{Part}}, proofs.{MembersAt.{hosts_are}, PairStates.{all_are, up_more, up_of_all}}}
-use Rattle.amt_dual.{specs.{InTurn.{parts_in_turn}, Twins.{are_twins}, declared.step.DualPart.{DualPart, TheVariants.{Relay}}}, proofs.DualStates.{AreInTurn, in_turn, relay_part, some_in_turn, turns_are}}
+use Rattle.{std.proofs.{Common.{◌≡◌, true, List, [], ◌∷◌, ◌++◌, refl, sym, ap, ◌∙◌, flat_map, false, take, append-nil, subst}, lemmas.Bool.{not-false, not-true}}, gateway_machine.specs.declared.event.GatewayEvent.TheVariants.{Moment as Passes}, relay_machine.specs.declared.event.Event.TheVariants.{Moment}, amt_pair.{specs.{Parts.{gateway_parts}, Schedule.{upwards_on}, Setup.{Host}, declared.step.Part.{Part}}, proofs.{MembersAt.{hosts_are}, PairStates.{all_are, up_more, up_of_all}}}, amt_dual.{specs.{InTurn.{parts_in_turn}, Twins.{are_twins}, declared.step.DualPart.{DualPart, TheVariants.{Relay}}}, proofs.DualStates.{AreInTurn, in_turn, relay_part, some_in_turn, turns_are}}}
 use Rattle.amt_dual.proofs.pair.DualPair.take_moment.Goals as goal
 
 pub returns-clause-parts : goal.returns-clause-parts
