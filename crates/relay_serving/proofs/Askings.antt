@@ -4,7 +4,7 @@ use Rattle.amt_ports.specs.{Devices.{LinkSeen}, Sends.{TriedSend}, Told.{Answers
 use Rattle.amt_values.specs.{Conditions.{First}, declared.peer.Peer.{Peer}}
 use Rattle.control_lines.specs.{Answer.{HasReplied, is_answer, sent_to}, Asking.{Asks, Fails, line_of, order_of_reasons}, declared.asking.Asking.{Asking}}
 use Rattle.script_lines.specs.declared.reason.Reason.{Reason}
-use Rattle.relay_serving.specs.{Asked.{AreAnswered, Asked, Failed, Full, HasAnswer, IsAnswered, IsEnd, IsRead, IsUntried, RoundEnd, Shut, Silent, is_stop, line_more, no_line, refused_among}, AskingServers.{LineSo, NextSo, RoundSo}, Controls.{ControlSeen}}
+use Rattle.relay_serving.specs.{Asked.{AreAnswered, Asked, EndsRound, Failed, Full, HasAnswer, IsAnswered, IsEnd, IsRead, IsUntried, RoundEnd, Shut, Silent, is_stop, line_more, no_line, refused_among}, AskingServers.{LineSo, NextSo, RoundSo}, Controls.{ControlSeen}}
 use Rattle.relay_serving.specs.{Replies.{Replying}, Servers.{counts_in}, Traces.{ServerDoes, refusing}, declared.{control.CopyCount.{CopyCount}, server.{Server.{Server}, asking.Answered.{Answered}}}}
 use Rattle.relay_serving.proofs.{Counting.{count_more}, Traces.{alone}}
 
@@ -121,9 +121,9 @@ round_full replying control control' count lines run all = record {
 }
 
 -- fewer came
-pub round_ended : (replying : Replying) (text : Result Asking Reason → CopyCount → List ℕ) (control now control' : ControlSeen) (count : ℕ) (lines : Answered) → IsAsking replying control now count lines → NextSo text now control' None → count < 64
+pub round_ended : (replying : Replying) (control now control' : ControlSeen) (count : ℕ) (lines : Answered) → IsAsking replying control now count lines → (ending : RoundEnd) × IsEnd ending 0 × EndsRound ending now control' → count < 64
     → RoundSo replying control control' lines
-round_ended replying text control now control' count lines run next few =
+round_ended replying control now control' count lines run next few =
     let counted = run.count_is in record {
       round = record { asked = run.asked; ending = next.0 };
       is_round = record { last = now; answered = run.answered; ends = next.2; is_end = end_after next.0 (length run.asked) next.1 (omega (arith, counted, few)) };

@@ -1,5 +1,5 @@
 //! What a running relay counts.
-ghost use Rattle.std.specs.Prelude.{◌≡◌, ◌<◌, ◌^◌};
+ghost use Rattle.std.specs.Prelude.{◌≡◌, ◌+◌, ◌<◌, ◌^◌};
 ghost use Rattle.relay_serving.specs.Counting.{no_counts, with_late, with_outcome, with_packet, with_starved};
 
 use relay_machine::{Event, Outcome};

@@ -1,5 +1,5 @@
 //! The texts by which a running relay answers lines.
-ghost use Rattle.std.specs.Prelude.{◌≡◌, ◌==◌, ◌&&◌, ◌++◌, Some, IfOk, OnOk};
+ghost use Rattle.std.specs.Prelude.{◌≡◌, ◌==◌, ◌&&◌, ◌++◌, Some, IfOk, OnOk, if◌then◌else◌};
 ghost use Rattle.amt_values.specs.Endpoint.{endpoint_of};
 ghost use Rattle.relay_serving.specs.{AskingServers.{standing_in}, OutcomeWords.{outcome_words}, Replies.{numbers_text, reply_text, rows_at, rows_text, told_text}, Servers.{first_in, settings_in}};
 ghost use Rattle.control_lines.specs.{Answer.{bad_text}, Tally.{tally_text}};
@@ -103,6 +103,13 @@ fn told_text(
     }
 }
 
+// The packets that are copied in the turns' own thread: all where there is no worker.
+fn inline_of(workers: u32, packets: u64) -> u64
+    ensures { result ≡ (if workers == 0 then packets else 0) }
+{
+    if workers == 0 { packets } else { 0 }
+}
+
 /// A relay that is asked after some whole turns.
 #[derive(Drop)]
 pub(super) struct Held<'a, O: OutLink, T> {
@@ -136,7 +143,7 @@ impl<O: OutLink + Drop, T> Replies for Held<'_, O, T> {
                     torn: counts.torn,
                     sent: counts.sent.saturating_add(copied.sent),
                     unsent: counts.unsent.saturating_add(copied.unsent),
-                    inline: if self.workers == 0 { counts.packets } else { 0 },
+                    inline: inline_of(self.workers, counts.packets),
                     starved,
                     late: counts.late,
                     owed: server.publisher.owed(),

@@ -16,6 +16,6 @@ returns g c =
         calm = sent.calm;
         same_wait = sent.waits;
         stops_is = c.is_stop.ensures;
-        refused_is = c.one_if.ensures ∙ ap one_if c.is_err.ensures;
+        refused_is = c.one_if.ensures ∙ ap one_if c.is_err.ensures.value;
       };
     }

@@ -6,7 +6,7 @@ pub loop-init : goal.loop-init
 loop-init g c = record { asking = IsAsking-none _ _; room = refl }
 
 pub returns-in-None-clause-round : goal.returns-in-None-clause-round
-returns-in-None-clause-round g c = round_ended _ _ _ _ _ _ _ c.loop.invariant.asking c.in-None.ensures.next c.loop-test.true
+returns-in-None-clause-round g c = round_ended _ _ _ _ _ _ c.loop.invariant.asking c.in-None.ensures.next c.loop-test.true
 
 pub returns-in-None-clause-few : goal.returns-in-None-clause-few
 returns-in-None-clause-few g c =
