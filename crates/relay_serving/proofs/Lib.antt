@@ -17,6 +17,7 @@ pub mod SlotsServed
 pub mod Started
 pub mod Stages
 pub mod Starting
+pub mod Telling
 pub mod Together
 pub mod Traces
 pub mod WholeRuns

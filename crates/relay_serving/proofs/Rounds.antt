@@ -3,7 +3,7 @@ use Rattle.std.{proofs.{Common.{◌≡◌, ◌≤◌, ℕ, ◌+◌, List, [], �
 use Rattle.amt_ports.specs.Sends.{TriedSend, sent_count, unsent_count}
 use Rattle.response_mac.specs.declared.secret.Secret.{Secret}
 use Rattle.relay_machine.specs.declared.settings.Settings.{Settings}
-use Rattle.relay_serving.specs.{Asked.{IsRound, Round, refused_in}, Controls.{ControlSeen}, Counting.{is_late, starved_in}, Events.{happenings_from, happenings_of_turn}, Happenings.{Happening, events_among}, Replies.{Standing}, Rounds.{AreRounds, ControlServes, no_round, round_more, standing_after}, Sending.{answers_after}, Turns.{Turn, moment_of_turn}}
+use Rattle.relay_serving.specs.{Asked.{IsRound, Round, refused_in}, Controls.{ControlSeen}, Counting.{is_late, starved_in}, Events.{happenings_from, happenings_of_turn}, Happenings.{Happening, events_among}, Replies.{Standing, replies_at}, Rounds.{AreRounds, ControlServes, no_round, round_more, standing_after}, Sending.{answers_after}, Turns.{Turn, moment_of_turn}}
 use Rattle.relay_serving.proofs.{Answering.{answers_after-append}, Happenings.{events_among-append}}
 
 -- what happens in more turns begins with what happens in the first ones
@@ -37,7 +37,7 @@ module _ (settings : Settings) (first : Secret) (workers : ℕ) (sends more : Li
   rounds_further start turns rounds end (round_more earlier before now served turn round after is) within =
       let short = fewer earlier (turn ∷ []) in
       round_more earlier before now (rounds_further start earlier before now served (omega (arith, short, within))) turn round after
-      (subst (λ (standing : Standing). IsRound settings first workers standing round now after) (stands_still (earlier ++ turn ∷ []) (sum_by refused_in before) within) is)
+      (subst (λ (standing : Standing). IsRound (replies_at settings first workers standing) round now after) (stands_still (earlier ++ turn ∷ []) (sum_by refused_in before) within) is)
 
   -- all that was said of the rounds is true of the longer list of sends
   pub serves_further : (control control' : Option ControlSeen) (turns : List Turn) (rounds : List Round) → answers turns ≡ length sends → ControlServes settings first workers sends control control' turns rounds

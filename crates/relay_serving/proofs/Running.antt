@@ -4,8 +4,8 @@ use Rattle.amt_values.specs.declared.peer.Peer.{Peer}
 use Rattle.amt_ports.specs.{Answers.{Taken}, Sends.{TriedSend, sent_count, unsent_count}, Causes.{Rose}, EndCauses.{IsCauseOf, IsCausedBy}, declared.{feed.FeedAnswer.{FeedAnswer}, link.LinkAnswer.{LinkAnswer}, out_link.OutLink.{Ghosts}, end.End.{End, TheVariants.{Turns, LinkFault, FeedFault, WordsFault}}}}
 use Rattle.response_mac.specs.declared.secret.Secret.{Secret}
 use Rattle.relay_machine.specs.declared.settings.Settings.{Settings}
-use Rattle.relay_serving.specs.{Asked.{Asked, Failed, Full, IsEnd, IsRound, Round, RoundEnd, Shut, Silent, is_stopped, refused_in}, AskingServers.{AsksSo, in_turns_refusing, refusing, standing_in}, Controls.{ControlSeen}, Replies.{Standing}, Rounds.{ControlServes, round_more, standing_after}, Runs.{GoOn, HasDone, all_turns, stopped}, Sending.{answers_after}}
-use Rattle.relay_serving.specs.{Counting.{HasAnswered, is_late, no_counts, starved_in}, Devices.{Devices}, Events.{happenings_from, happenings_of_turn}, Happenings.{Happening, events_among}, Servers.{counts_in, first_in, happenings_in, settings_in, tally_in}, Serving.{AreOwedLate}, Traces.{Does, ServerDoes, World, in_turns}, Turning.{RunsSo, TurnsSo}, Turns.{AreWhole, IsWhole, Progress, Turn, after_turn, no_progress}}
+use Rattle.relay_serving.specs.{Asked.{Asked, Failed, Full, IsEnd, IsRound, Round, RoundEnd, Shut, Silent, is_stopped, refused_in}, AskingServers.{AsksSo, in_turns_refusing, standing_in}, Controls.{ControlSeen}, Replies.{Standing, replies_at}, Rounds.{ControlServes, round_more, standing_after}, Runs.{GoOn, HasDone, all_turns, stopped}, Sending.{answers_after}}
+use Rattle.relay_serving.specs.{Counting.{HasAnswered, is_late, no_counts, starved_in}, Devices.{Devices}, Events.{happenings_from, happenings_of_turn}, Happenings.{Happening, events_among}, Servers.{counts_in, first_in, happenings_in, settings_in, tally_in}, Serving.{AreOwedLate}, Traces.{Does, ServerDoes, World, in_turns, refusing}, Turning.{RunsSo, TurnsSo}, Turns.{AreWhole, IsWhole, Progress, Turn, after_turn, no_progress}}
 use Rattle.relay_serving.{specs.declared.{counts.Counts.{Counts}, plan.ServePlan.{ServePlan}, server.Server.{Server}}, proofs.{Answering.{HasAnswered-none, answered_then, answers_after-append, as_many_sends, no_more}, Askings.{same_sends}, Happenings.{events_among-append}, OwedLate.{AreOwedLate-none, AreOwedLate-then, owed_after}, Rounds.{control_unasked, serves_further}, Stages.{no_error}, Traces.{Does-at, Does-none, Does-then}}}
 
 -- one whole turn more
@@ -123,7 +123,7 @@ module _ {O : Type 0} {g : Ghosts O} {T : Type 0} where
         few = omega (arith, alone_is, short, count_by-le-length (λ (one : Asked). one.starved) asks.round.asked);
         goes = goes_one stops asks.round asks.stops_is;
         asked = round_more turns rounds now served turn asks.round last
-            (subst (λ (at : Settings × Secret × Standing). IsRound at.0 at.1 workers at.2 asks.round now last) (λ i. (same i, same_first i, stands i)) asks.is_round);
+            (subst (λ (at : Settings × Secret × Standing). IsRound (replies_at at.0 at.1 workers at.2) asks.round now last) (λ i. (same i, same_first i, stands i)) asks.is_round);
       }
 
   -- the answers to the datagrams of turns

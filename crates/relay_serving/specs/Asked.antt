@@ -4,10 +4,8 @@ use Rattle.std.specs.List.{list_any}
 use Rattle.amt_ports.specs.{Causes.{Rose}, Devices.{AnswersAll, LinkSeen}, Told.{Answers, Appends}, declared.link.LinkAnswer.{LinkAnswer, TheVariants.{Datagram as LineCame, Nothing as NothingCame, Closed as LinkClosed}}}
 use Rattle.amt_values.specs.{Conditions.{First}, declared.peer.Peer.{Peer}}
 use Rattle.control_lines.specs.{Answer.{HasReplied, is_answer}, Asking.{Asks, Fails, line_of, order_of_reasons}, declared.asking.Asking.{Asking, TheVariants.{Counts, Show, ShowOf, Stop}}}
-use Rattle.response_mac.specs.declared.secret.Secret.{Secret}
 use Rattle.script_lines.specs.declared.reason.Reason.{Reason}
-use Rattle.relay_machine.specs.declared.settings.Settings.{Settings}
-use Rattle.relay_serving.specs.{Controls.{ControlSeen}, Replies.{Standing, reply_text}, declared.control.CopyCount.{CopyCount}}
+use Rattle.relay_serving.specs.{Controls.{ControlSeen}, Replies.{Replying}, declared.control.CopyCount.{CopyCount}}
 
 -- One line: from whom it came, as what it was read, the copies that were counted for it, and whether memory refused its
 -- answer.
@@ -34,10 +32,6 @@ is_stop (Err reason) = false
 abbrev pub refused_among : List Asked → ℕ
 refused_among asked = count_by (λ one. one.starved) asked
 
--- the same, but that memory refused this number of answers more
-abbrev pub refusing_more : ℕ → Standing → Standing
-refusing_more number standing = record standing { starved = standing.starved + number }
-
 -- nothing was tried
 pub record IsUntried (before after : LinkSeen) : Type 0 where
   pub same_tried : after.tried ≡ before.tried
@@ -50,22 +44,21 @@ HasAnswer true starved from text before after = (starved ≡ false) × IsUntried
 HasAnswer false true from text before after = IsUntried before after
 HasAnswer false false from text before after = HasReplied from text before after
 
-module _ (settings : Settings) (first : Secret) (workers : ℕ) where
-  -- the line was the next that came, and was answered by where the run stood
-  pub record IsAnswered (standing : Standing) (one : Asked) (before after : ControlSeen) : Type 0 where
-    pub came : Answers LinkClosed before.link.coming after.link.coming (LineCame one.from one.line)
-    pub read : IsRead one.line one.reading
-    pub counted : Appends before.copies after.copies one.copied
-    pub answer : HasAnswer (is_answer one.line) one.starved one.from (reply_text settings first workers standing one.reading one.copied) before.link after.link
-    pub calm : after.link.receive_faults ≡ before.link.receive_faults
-    pub unwaited : after.wait ≤ before.wait
+-- the line was the next that came, and was answered by this text
+pub record IsAnswered (text : Result Asking Reason → CopyCount → List ℕ) (one : Asked) (before after : ControlSeen) : Type 0 where
+  pub came : Answers LinkClosed before.link.coming after.link.coming (LineCame one.from one.line)
+  pub read : IsRead one.line one.reading
+  pub counted : Appends before.copies after.copies one.copied
+  pub answer : HasAnswer (is_answer one.line) one.starved one.from (text one.reading one.copied) before.link after.link
+  pub calm : after.link.receive_faults ≡ before.link.receive_faults
+  pub unwaited : after.wait ≤ before.wait
 
-  -- one line after the other, each with the number of answers before it that memory refused
-  pub data AreAnswered (standing : Standing) (start : ControlSeen) : List Asked → ControlSeen → Type 0 where
-    no_line : AreAnswered standing start [] start
-    line_more : (asked : List Asked) (now : ControlSeen) → AreAnswered standing start asked now
-        → (one : Asked) (after : ControlSeen) → IsAnswered (refusing_more (refused_among asked) standing) one now after
-        → AreAnswered standing start (asked ++ one ∷ []) after
+-- one line after the other
+pub data AreAnswered (replying : Replying) (start : ControlSeen) : List Asked → ControlSeen → Type 0 where
+  no_line : AreAnswered replying start [] start
+  line_more : (asked : List Asked) (now : ControlSeen) → AreAnswered replying start asked now
+      → (one : Asked) (after : ControlSeen) → IsAnswered (replying (refused_among asked)) one now after
+      → AreAnswered replying start (asked ++ one ∷ []) after
 
 -- How the askings of a turn ended: 64 lines had come; the link answered that nothing is there, or that it is closed; or
 -- it failed.
@@ -110,9 +103,9 @@ is_stopped round = list_any (λ one. is_stop one.reading) round.asked
 abbrev pub refused_in : Round → ℕ
 refused_in round = refused_among round.asked
 
--- a round, where the run stood so at its beginning
-pub record IsRound (settings : Settings) (first : Secret) (workers : ℕ) (standing : Standing) (round : Round) (before after : ControlSeen) : Type 0 where
+-- a round, of these texts
+pub record IsRound (replying : Replying) (round : Round) (before after : ControlSeen) : Type 0 where
   pub last : ControlSeen
-  pub answered : AreAnswered settings first workers standing before round.asked last
+  pub answered : AreAnswered replying before round.asked last
   pub ends : EndsRound round.ending last after
   pub is_end : IsEnd round.ending (length round.asked)

@@ -51,9 +51,9 @@ with_outcome counts event outcome = record counts {
 abbrev pub with_packet : Counts → Counts
 with_packet counts = record counts { packets = counts.packets + 1 }
 
--- the counts after one event more that memory refused
-abbrev pub with_starved : Counts → Counts
-with_starved counts = record counts { starved = counts.starved + 1 }
+-- the counts after this number of events more, or of answers to lines, that memory refused
+abbrev pub with_starved : Counts → ℕ → Counts
+with_starved counts number = record counts { starved = counts.starved + number }
 
 -- the counts after one publishing more that memory refused
 abbrev pub with_late : Counts → Counts

@@ -64,6 +64,19 @@ kept_text numbers =
 abbrev pub numbers_text : Numbers → List ℕ
 numbers_text numbers = taken_text numbers ++ (sent_text numbers ++ kept_text numbers)
 
+-- what is told to whoever asks for it, by the memberships, the numbers, and how often each word was that of an outcome,
+-- which is told by a line `= WORD N`
+abbrev pub told_text : Asking → List Row → Numbers → List ℕ → List ℕ
+told_text Counts rows numbers tally = numbers_text numbers ++ tally_text outcome_words tally
+told_text Show rows numbers tally = rows_text rows
+told_text (ShowOf peer) rows numbers tally = rows_text (rows_at (endpoint_of peer) rows)
+told_text Stop rows numbers tally = []
+
+-- The texts that answer lines: by how many answers memory refused before, what a line was read as, and the copies that
+-- were counted for it.
+abbrev pub Replying : Type 0
+Replying = ℕ → Result Asking Reason → CopyCount → List ℕ
+
 -- by the settings, the first secret and the number of workers of a run
 module _ (settings : Settings) (first : Secret) (workers : ℕ) where
   abbrev pub events_at : Standing → List Event
@@ -101,17 +114,12 @@ module _ (settings : Settings) (first : Secret) (workers : ℕ) where
     rows = length (members_at standing);
   }
 
-  -- `= WORD N` of each word that some outcome had
-  abbrev pub words_text : Standing → List ℕ
-  words_text standing = tally_text outcome_words (numbers_of outcome_words (map word_of (outcomes_at standing)))
-
-  abbrev pub counts_text : Standing → CopyCount → List ℕ
-  counts_text standing copied = numbers_text (numbers_at standing copied) ++ words_text standing
-
   -- what answers a line that was read so, where the copies were counted so
   abbrev pub reply_text : Standing → Result Asking Reason → CopyCount → List ℕ
-  reply_text standing (Ok Counts) copied = counts_text standing copied
-  reply_text standing (Ok Show) copied = rows_text (members_at standing)
-  reply_text standing (Ok (ShowOf peer)) copied = rows_text (rows_at (endpoint_of peer) (members_at standing))
-  reply_text standing (Ok Stop) copied = []
+  reply_text standing (Ok asking) copied =
+      told_text asking (members_at standing) (numbers_at standing copied) (numbers_of outcome_words (map word_of (outcomes_at standing)))
   reply_text standing (Err reason) copied = bad_text reason
+
+  -- the same by the number of answers that memory refused since
+  abbrev pub replies_at : Standing → Replying
+  replies_at standing refused reading copied = reply_text (record standing { starved = standing.starved + refused }) reading copied

@@ -3,7 +3,7 @@ use Rattle.std.specs.Prelude.{◌≡◌, ℕ, ◌+◌, List, [], ◌∷◌, ◌+
 use Rattle.amt_ports.specs.Sends.{TriedSend, sent_count, unsent_count}
 use Rattle.response_mac.specs.declared.secret.Secret.{Secret}
 use Rattle.relay_machine.specs.declared.settings.Settings.{Settings}
-use Rattle.relay_serving.specs.{Asked.{IsRound, Round, refused_in}, Controls.{ControlSeen}, Counting.{is_late, starved_in}, Events.{happenings_from}, Happenings.{events_among}, Replies.{Standing}, Sending.{answers_after}, Turns.{Turn}}
+use Rattle.relay_serving.specs.{Asked.{IsRound, Round, refused_in}, Controls.{ControlSeen}, Counting.{is_late, starved_in}, Events.{happenings_from}, Happenings.{events_among}, Replies.{Standing, replies_at}, Sending.{answers_after}, Turns.{Turn}}
 
 -- by the settings, the first secret, the number of workers, and all that the link of the run tried to send, in order
 module _ (settings : Settings) (first : Secret) (workers : ℕ) (sends : List TriedSend) where
@@ -27,7 +27,7 @@ module _ (settings : Settings) (first : Secret) (workers : ℕ) (sends : List Tr
     no_round : AreRounds start [] [] start
     round_more : (turns : List Turn) (rounds : List Round) (now : ControlSeen) → AreRounds start turns rounds now
         → (turn : Turn) (round : Round) (after : ControlSeen)
-        → IsRound settings first workers (standing_after (turns ++ turn ∷ []) (sum_by refused_in rounds)) round now after
+        → IsRound (replies_at settings first workers (standing_after (turns ++ turn ∷ []) (sum_by refused_in rounds))) round now after
         → AreRounds start (turns ++ turn ∷ []) (rounds ++ round ∷ []) after
 
   -- without a control there is none

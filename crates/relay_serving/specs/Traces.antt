@@ -38,8 +38,9 @@ and_then one other = record {
 abbrev pub taking : Event → ℕ → Trace
 taking event packets = record nothing { happened = Took event ∷ []; tally = 1; packets = packets }
 
-abbrev pub starving : Trace
-starving = record nothing { starved = 1; tally = 1 }
+-- memory refused this number of events, or of answers to lines
+abbrev pub refusing : ℕ → Trace
+refusing number = record nothing { starved = number; tally = number }
 
 -- it became this late, or memory refused that event
 abbrev pub passing : Bool → ℕ → Trace

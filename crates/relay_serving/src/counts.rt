@@ -1,5 +1,5 @@
 //! What a running relay counts.
-ghost use Rattle.std.specs.Prelude.{◌≡◌, ◌<◌, ◌^◌};
+ghost use Rattle.std.specs.Prelude.{◌≡◌, ◌+◌, ◌<◌, ◌^◌};
 ghost use Rattle.relay_serving.specs.Counting.{no_counts, with_late, with_outcome, with_packet, with_starved};
 
 use relay_machine::{Event, Outcome};
@@ -46,12 +46,12 @@ impl Counts {
         self.packets += 1;
     }
 
-    /// Counts an event that memory refused.
-    pub(crate) fn count_starved(&mut self)
-        requires { self.old.starved < 2 ^ 62 }
-        ensures { self.new ≡ with_starved self.old }
+    /// Counts events, or answers to lines, that memory refused.
+    pub(crate) fn count_starved(&mut self, number: u64)
+        requires { self.old.starved + number < 2 ^ 62 }
+        ensures { self.new ≡ with_starved self.old number }
     {
-        self.starved += 1;
+        self.starved += number;
     }
 
     /// Counts a publishing that memory refused.

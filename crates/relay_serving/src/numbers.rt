@@ -1,6 +1,6 @@
 //! The numbers of a running relay, as its answers to lines have them.
 ghost use Rattle.std.specs.Prelude.{◌≡◌, ◌++◌, OnOk};
-ghost use Rattle.relay_serving.specs.Replies.{kept_text, numbers_text, sent_text, taken_text};
+ghost use Rattle.relay_serving.specs.Replies.{kept_text, number_line, numbers_text, sent_text, taken_text};
 
 use amt_values::Bytes;
 use std::alloc::AllocError;
@@ -28,17 +28,24 @@ pub struct Numbers {
     pub rows: u64,
 }
 
+// Puts the line `WORD N` at the end.
+fn append_number(text: &mut Bytes, word: &str, number: u64) -> Result<(), AllocError>
+    ensures { OnOk result (text.new ≡ text.old ++ number_line word.now number) }
+{
+    write!(text, "{word} {number}\n")?;
+    Ok(())
+}
+
 // What came in.
 #[tactic(auto, unfolding(crate::specs::Replies::taken_text))]
 fn append_taken(text: &mut Bytes, numbers: &Numbers) -> Result<(), AllocError>
     ensures { OnOk result (text.new ≡ text.old ++ taken_text numbers.now) }
 {
-    write!(text, "turns {}\n", numbers.turns)?;
-    write!(text, "datagrams {}\n", numbers.datagrams)?;
-    write!(text, "packets {}\n", numbers.packets)?;
-    write!(text, "updated {}\n", numbers.updated)?;
-    write!(text, "torn {}\n", numbers.torn)?;
-    Ok(())
+    append_number(text, "turns", numbers.turns)?;
+    append_number(text, "datagrams", numbers.datagrams)?;
+    append_number(text, "packets", numbers.packets)?;
+    append_number(text, "updated", numbers.updated)?;
+    append_number(text, "torn", numbers.torn)
 }
 
 // What went out.
@@ -46,10 +53,9 @@ fn append_taken(text: &mut Bytes, numbers: &Numbers) -> Result<(), AllocError>
 fn append_sent(text: &mut Bytes, numbers: &Numbers) -> Result<(), AllocError>
     ensures { OnOk result (text.new ≡ text.old ++ sent_text numbers.now) }
 {
-    write!(text, "sent {}\n", numbers.sent)?;
-    write!(text, "unsent {}\n", numbers.unsent)?;
-    write!(text, "inline {}\n", numbers.inline)?;
-    Ok(())
+    append_number(text, "sent", numbers.sent)?;
+    append_number(text, "unsent", numbers.unsent)?;
+    append_number(text, "inline", numbers.inline)
 }
 
 // What became of events and entries, and what there is.
@@ -57,12 +63,11 @@ fn append_sent(text: &mut Bytes, numbers: &Numbers) -> Result<(), AllocError>
 fn append_kept(text: &mut Bytes, numbers: &Numbers) -> Result<(), AllocError>
     ensures { OnOk result (text.new ≡ text.old ++ kept_text numbers.now) }
 {
-    write!(text, "starved {}\n", numbers.starved)?;
-    write!(text, "late {}\n", numbers.late)?;
-    write!(text, "owed {}\n", numbers.owed)?;
-    write!(text, "published {}\n", numbers.published)?;
-    write!(text, "rows {}\n", numbers.rows)?;
-    Ok(())
+    append_number(text, "starved", numbers.starved)?;
+    append_number(text, "late", numbers.late)?;
+    append_number(text, "owed", numbers.owed)?;
+    append_number(text, "published", numbers.published)?;
+    append_number(text, "rows", numbers.rows)
 }
 
 impl Numbers {

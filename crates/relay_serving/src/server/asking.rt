@@ -1,16 +1,54 @@
-//! How a running relay answers lines that ask it for something.
-ghost use Rattle.std.specs.Prelude.{◌≡◌, ◌≤◌, ◌<◌, ◌+◌, ◌^◌, ◌||◌, length, is_err};
+//! How lines that ask a running relay for something are answered.
+ghost use Rattle.std.specs.Prelude.{◌≡◌, ◌≤◌, ◌<◌, ◌+◌, ◌^◌, ◌||◌, IfOk, length, is_err};
 ghost use Rattle.amt_ports.specs.Devices.{link_at};
 ghost use Rattle.control_lines.specs.Answer.{is_answer};
-ghost use Rattle.relay_serving.specs.{Asked.{HasAnswer, is_stop}, AskingServers.{AsksSo, LineSo, NextSo, RoundSo, standing_in}, Controls.{control_at, controls_at}, Replies.{reply_text}, Servers.{first_in, settings_in, tally_in}};
+ghost use Rattle.relay_serving.specs.{Asked.{HasAnswer, is_stop}, AskingServers.{AsksSo, LineSo, NextSo, RoundSo}, Controls.{control_at, controls_at}, Counting.{one_if}, Replies.{Replying}, Servers.{tally_in}};
 
 use super::Server;
+use super::replying::Held;
 use crate::control::{Control, Copies, CopyCount};
 use amt_ports::{BURST, Got, Link, OutLink};
-use amt_values::Peer;
+use amt_values::{Bytes, Peer};
 use control_lines::{Asking, answer_line, is_answer, read_asking};
 use script_lines::Reason;
 use std::alloc::{AllocError, Global};
+
+/// What lines are answered by.
+pub(super) trait Replies {
+    /// The texts, by what was refused since the run began.
+    ghost texts: { Self → Replying };
+
+    /// The text that answers a line.
+    fn reply(
+        &self,
+        alloc: Global,
+        starved: u64,
+        reading: &Result<Asking, Reason>,
+        copied: &CopyCount,
+    ) -> Result<Bytes, AllocError>
+        ensures { IfOk result (λ text. text ≡ texts self.now starved reading.now copied.now) };
+}
+
+/// What lines came to: whether one asks that the run ends, and how many answers memory refused.
+#[derive(Clone, Copy, Debug, PartialEq, Eq)]
+pub(super) struct Answered {
+    stops: bool,
+    refused: u64,
+}
+
+impl Answered {
+    // Of these lines, and of one more.
+    fn and(&self, next: &Answered) -> Answered
+        requires few { self.now.refused + next.now.refused < 2 ^ 64 }
+        ensures stops { result.stops ≡ (self.now.stops || next.now.stops) }
+        ensures refused { result.refused ≡ self.now.refused + next.now.refused }
+    {
+        Answered {
+            stops: self.stops || next.stops,
+            refused: self.refused + next.refused,
+        }
+    }
+}
 
 // Whether somebody asks that the run ends.
 fn is_stop(reading: &Result<Asking, Reason>) -> bool
@@ -22,116 +60,113 @@ fn is_stop(reading: &Result<Asking, Reason>) -> bool
     }
 }
 
-fn either(one: bool, other: bool) -> bool
-    ensures { result ≡ (one || other) }
+fn one_if(condition: bool) -> u64
+    ensures { result ≡ one_if condition }
 {
-    one || other
+    if condition { 1 } else { 0 }
+}
+
+// Tries to send what answers a line, if that isn't an answer itself. Out of memory nothing is sent.
+fn send_reply<A: Replies, K: Link>(
+    alloc: Global,
+    held: &A,
+    starved: u64,
+    link: &mut K,
+    from: &Peer,
+    line: &[u8],
+    reading: &Result<Asking, Reason>,
+    copied: &CopyCount,
+) -> Result<(), AllocError>
+    ensures answer { HasAnswer (is_answer line.now) (is_err result) from.now (A.texts held.now starved reading.now copied.now)
+        (link_at K.Link link.old) (link_at K.Link link.new) }
+    ensures coming { K.coming link.new ≡ K.coming link.old }
+    ensures calm { K.receive_faults link.new ≡ K.receive_faults link.old }
+    ensures waits { K.longest_wait link.new ≡ K.longest_wait link.old }
+{
+    if is_answer(line) {
+        return Ok(());
+    }
+    let Ok(text) = held.reply(alloc, starved, reading, copied) else {
+        return Err(AllocError);
+    };
+    answer_line(link, from, text)
+}
+
+// Answers a line.
+fn answer_line_of<A: Replies, K: Link, N: Copies>(
+    alloc: Global,
+    held: &A,
+    starved: u64,
+    control: &mut Control<K, N>,
+    from: Peer,
+    line: &[u8],
+) -> Answered
+    ensures answers { LineSo (A.texts held.now starved) from line.now
+        (control_at K.Link N.Copies control.old) (control_at K.Link N.Copies control.new) result }
+{
+    let reading = read_asking(line);
+    let copied = control.copies.copies();
+    let link = &mut control.link;
+    let sent = send_reply(alloc, held, starved, link, &from, line, &reading, &copied);
+    Answered {
+        stops: is_stop(&reading),
+        refused: one_if(sent.is_err()),
+    }
+}
+
+// Asks the control once, and answers the line that it has.
+fn answer_next<A: Replies, K: Link, N: Copies>(
+    alloc: Global,
+    held: &A,
+    starved: u64,
+    control: &mut Control<K, N>,
+    buf: &mut [u8],
+) -> Option<Answered>
+    requires room { 65536 ≤ length buf.old }
+    ensures next { NextSo (A.texts held.now starved)
+        (control_at K.Link N.Copies control.old) (control_at K.Link N.Copies control.new) result }
+    ensures room { length buf.new ≡ length buf.old }
+{
+    match control.link.recv(buf, 0) {
+        Ok(Got::Datagram(from, octets)) => {
+            let line = &buf[..octets];
+            Some(answer_line_of(alloc, held, starved, control, from, line))
+        }
+        Ok(Got::Nothing) => None,
+        Ok(Got::Closed) => None,
+        Err(_) => None,
+    }
+}
+
+// Answers the lines that the control has, at most 64.
+fn answer_lines<A: Replies, K: Link, N: Copies>(
+    alloc: Global,
+    held: &A,
+    starved: u64,
+    control: &mut Control<K, N>,
+    buf: &mut [u8],
+) -> Answered
+    requires room { 65536 ≤ length buf.old }
+    requires few { starved ≤ 2 ^ 50 }
+    ensures round { RoundSo (λ refused. A.texts held.now (starved + refused))
+        (control_at K.Link N.Copies control.old) (control_at K.Link N.Copies control.new) result }
+    ensures few { result.refused ≤ 64 }
+    ensures room { length buf.new ≡ length buf.old }
+{
+    let mut lines = Answered {
+        stops: false,
+        refused: 0,
+    };
+    for _ in 0..BURST {
+        match answer_next(alloc, held, starved + lines.refused, control, buf) {
+            Some(line) => lines = lines.and(&line),
+            None => return lines,
+        }
+    }
+    lines
 }
 
 impl<O: OutLink + Drop, T> Server<O, T> {
-    // Tries to send what answers a line, if that isn't an answer itself. Out of memory nothing is sent.
-    fn send_reply<K: Link>(
-        &self,
-        alloc: Global,
-        workers: u32,
-        turns: u64,
-        link: &mut K,
-        from: &Peer,
-        line: &[u8],
-        reading: &Result<Asking, Reason>,
-        copied: &CopyCount,
-    ) -> Result<(), AllocError>
-        ensures answer { HasAnswer (is_answer line.now) (is_err result) from.now
-            (reply_text (settings_in self.now) (first_in self.now) workers (standing_in turns self.now) reading.now copied.now)
-            (link_at K.Link link.old) (link_at K.Link link.new) }
-        ensures coming { K.coming link.new ≡ K.coming link.old }
-        ensures calm { K.receive_faults link.new ≡ K.receive_faults link.old }
-        ensures waits { K.longest_wait link.new ≡ K.longest_wait link.old }
-    {
-        if is_answer(line) {
-            return Ok(());
-        }
-        let Ok(text) = self.reply(alloc, workers, turns, reading, copied) else {
-            return Err(AllocError);
-        };
-        answer_line(link, from, text)
-    }
-
-    // Answers a line, and says whether it asks that the run ends.
-    fn answer_line_of<K: Link, N: Copies>(
-        &mut self,
-        alloc: Global,
-        workers: u32,
-        turns: u64,
-        control: &mut Control<K, N>,
-        from: Peer,
-        line: &[u8],
-    ) -> bool
-        requires few { tally_in self.old < 2 ^ 50 }
-        ensures answers { LineSo workers turns self.old self.new from line.now
-            (control_at K.Link N.Copies control.old) (control_at K.Link N.Copies control.new) result }
-    {
-        let reading = read_asking(line);
-        let copied = control.copies.copies();
-        let link = &mut control.link;
-        match self.send_reply(alloc, workers, turns, link, &from, line, &reading, &copied) {
-            Ok(()) => {}
-            Err(_) => self.starve(),
-        }
-        is_stop(&reading)
-    }
-
-    // Asks the control once, and answers the line that it has: whether that asks that the run ends.
-    fn answer_next<K: Link, N: Copies>(
-        &mut self,
-        alloc: Global,
-        workers: u32,
-        turns: u64,
-        control: &mut Control<K, N>,
-        buf: &mut [u8],
-    ) -> Option<bool>
-        requires room { 65536 ≤ length buf.old }
-        requires few { tally_in self.old < 2 ^ 50 }
-        ensures next { NextSo workers turns self.old self.new
-            (control_at K.Link N.Copies control.old) (control_at K.Link N.Copies control.new) result }
-        ensures room { length buf.new ≡ length buf.old }
-    {
-        match control.link.recv(buf, 0) {
-            Ok(Got::Datagram(from, octets)) => {
-                let line = &buf[..octets];
-                Some(self.answer_line_of(alloc, workers, turns, control, from, line))
-            }
-            Ok(Got::Nothing) => None,
-            Ok(Got::Closed) => None,
-            Err(_) => None,
-        }
-    }
-
-    // Answers the lines that the control has, at most 64: whether one asks that the run ends.
-    fn answer_lines<K: Link, N: Copies>(
-        &mut self,
-        alloc: Global,
-        workers: u32,
-        turns: u64,
-        control: &mut Control<K, N>,
-        buf: &mut [u8],
-    ) -> bool
-        requires room { 65536 ≤ length buf.old }
-        requires few { tally_in self.old + 64 < 2 ^ 50 }
-        ensures round { RoundSo workers turns self.old self.new
-            (control_at K.Link N.Copies control.old) (control_at K.Link N.Copies control.new) result }
-        ensures room { length buf.new ≡ length buf.old }
-    {
-        let mut stops = false;
-        for _ in 0..BURST {
-            match self.answer_next(alloc, workers, turns, control, buf) {
-                Some(stop) => stops = either(stops, stop),
-                None => return stops,
-            }
-        }
-        stops
-    }
-
     /// Answers the lines that came since the last turn, where there is a control: whether one asks that the run ends.
     pub(super) fn answer<K: Link, N: Copies>(
         &mut self,
@@ -147,9 +182,17 @@ impl<O: OutLink + Drop, T> Server<O, T> {
             (controls_at K.Link N.Copies control.old) (controls_at K.Link N.Copies control.new) result }
         ensures room { length buf.new ≡ length buf.old }
     {
-        match control {
-            Some(control) => self.answer_lines(alloc, workers, turns, control, buf),
-            None => false,
-        }
+        let Some(control) = control else {
+            return false;
+        };
+        let starved = self.counts.starved;
+        let held = Held {
+            server: self,
+            workers,
+            turns,
+        };
+        let lines = answer_lines(alloc, &held, starved, control, buf);
+        self.starve(lines.refused);
+        lines.stops
     }
 }

@@ -1,7 +1,7 @@
 //! How a running relay takes an event.
-ghost use Rattle.std.specs.Prelude.{◌≡◌, ◌<◌, ◌^◌, [], ◌∷◌, IfOk, OnOk, OnErr, false};
+ghost use Rattle.std.specs.Prelude.{◌≡◌, ◌≤◌, ◌<◌, ◌^◌, [], ◌∷◌, IfOk, OnOk, OnErr, false};
 ghost use Rattle.relay_machine.specs.{Answers.{outcome_of, sends_of}, EventSize.{IsEvent}, declared.event.Event.TheVariants.{Rotate}};
-ghost use Rattle.relay_serving.specs.{Counting.{is_packet, with_outcome}, Servers.{HasEvents, IsAsBefore, counts_in, events_in, first_in, settings_in, tally_in}, Stages.{PassesMoment}, Traces.{ServerDoes, starving, taking}};
+ghost use Rattle.relay_serving.specs.{Counting.{is_packet, with_outcome}, Servers.{HasEvents, IsAsBefore, counts_in, events_in, first_in, settings_in, tally_in}, Stages.{PassesMoment}, Traces.{ServerDoes, refusing, taking}};
 
 use super::Server;
 use amt_ports::OutLink;
@@ -47,16 +47,17 @@ impl<O: OutLink + Drop, T> Server<O, T> {
     {
         match self.enter(alloc, &Event::Moment(at)) {
             Ok(_sends) => {} // Nothing is sent then.
-            Err(_) => self.starve(),
+            Err(_) => self.starve(1),
         }
     }
 
-    /// Counts an event that memory refused.
-    pub(super) fn starve(&mut self)
+    /// Counts events, or answers to lines, that memory refused.
+    pub(super) fn starve(&mut self, number: u64)
         requires few { tally_in self.old < 2 ^ 50 }
-        ensures starves { ServerDoes starving self.old self.new }
+        requires number { number ≤ 64 }
+        ensures starves { ServerDoes (refusing number) self.old self.new }
     {
-        self.counts.count_starved();
+        self.counts.count_starved(number);
     }
 
     /// This secret is the current one from now on. It takes no memory.

@@ -56,7 +56,7 @@ impl<O: OutLink + Drop, T> Server<O, T> {
             Ok(FeedGot::Packet(octets)) => match self.feed_packet(rt, alloc, &buf[..octets]) {
                 Ok(()) => Ok(Asked::Something),
                 Err(_) => {
-                    self.starve();
+                    self.starve(1);
                     Ok(Asked::Something)
                 }
             },

@@ -73,7 +73,7 @@ impl<O: OutLink + Drop, T> Server<O, T> {
                 match self.hear_datagram(alloc, link, from, &buf[..octets]) {
                     Ok(()) => Ok(Asked::Something),
                     Err(_) => {
-                        self.starve();
+                        self.starve(1);
                         Ok(Asked::Something)
                     }
                 }

@@ -1,18 +1,19 @@
 //! The texts by which a running relay answers lines.
-ghost use Rattle.std.specs.Prelude.{◌≡◌, ◌==◌, ◌&&◌, ◌++◌, Some, IfOk, OnOk};
+ghost use Rattle.std.specs.Prelude.{◌≡◌, ◌==◌, ◌&&◌, ◌++◌, Some, IfOk, OnOk, if◌then◌else◌};
 ghost use Rattle.amt_values.specs.Endpoint.{endpoint_of};
-ghost use Rattle.relay_serving.specs.{AskingServers.{standing_in}, Replies.{counts_text, numbers_at, reply_text, rows_at, rows_text}, Servers.{events_in, first_in, settings_in}};
-ghost use Rattle.control_lines.specs.Answer.{bad_text};
-ghost use Rattle.relay_machine.specs.Answers.{rows_after};
+ghost use Rattle.relay_serving.specs.{AskingServers.{standing_in}, OutcomeWords.{outcome_words}, Replies.{numbers_text, reply_text, rows_at, rows_text, told_text}, Servers.{first_in, settings_in}};
+ghost use Rattle.control_lines.specs.{Answer.{bad_text}, Tally.{tally_text}};
 
 use super::Server;
+use super::asking::Replies;
 use crate::control::CopyCount;
 use crate::numbers::Numbers;
+use crate::outcomes::Outcomes;
 use amt_ports::OutLink;
 use amt_script::append_row;
 use amt_values::{Bytes, Endpoint, Peer};
 use control_lines::{Asking, append_bad};
-use endpoint_membership::{Row, Rows};
+use endpoint_membership::Row;
 use script_lines::Reason;
 use std::alloc::{AllocError, Global};
 
@@ -53,104 +54,104 @@ fn bad_text(alloc: Global, reason: Reason) -> Result<Bytes, AllocError>
     Ok(text)
 }
 
-impl<O: OutLink + Drop, T> Server<O, T> {
-    // The memberships.
-    fn members(&self, alloc: Global) -> Result<Rows, AllocError>
-        ensures { IfOk result (λ rows. rows ≡ rows_after (settings_in self.now) (first_in self.now) (events_in self.now)) }
-    {
-        self.relay.rows(alloc)
-    }
+// The answer to `counts`.
+fn counts_text(alloc: Global, numbers: &Numbers, outcomes: &Outcomes) -> Result<Bytes, AllocError>
+    ensures { IfOk result (λ text. text ≡ numbers_text numbers.now ++ tally_text outcome_words outcomes.now.tally) }
+{
+    let mut text = Bytes::new(alloc);
+    numbers.append(&mut text)?;
+    outcomes.append(&mut text)?;
+    Ok(text)
+}
 
-    // The numbers, after this number of whole turns.
-    fn numbers(
+// The answer to `show`.
+fn show_text(alloc: Global, rows: &[Row]) -> Result<Bytes, AllocError>
+    ensures { IfOk result (λ text. text ≡ rows_text rows.now) }
+{
+    let mut text = Bytes::new(alloc);
+    append_rows(&mut text, rows)?;
+    Ok(text)
+}
+
+// The answer to `show PEER`.
+fn show_text_of(alloc: Global, rows: &[Row], peer: &Peer) -> Result<Bytes, AllocError>
+    ensures { IfOk result (λ text. text ≡ rows_text (rows_at (endpoint_of peer.now) rows.now)) }
+{
+    let mut text = Bytes::new(alloc);
+    match Endpoint::of(peer) {
+        Some(endpoint) => append_rows_of(&mut text, rows, &endpoint)?,
+        None => {}
+    }
+    Ok(text)
+}
+
+// What is told to whoever asks for it, by the memberships and what was counted.
+fn told_text(
+    alloc: Global,
+    asking: &Asking,
+    rows: &[Row],
+    numbers: &Numbers,
+    outcomes: &Outcomes,
+) -> Result<Bytes, AllocError>
+    ensures { IfOk result (λ text. text ≡ told_text asking.now rows.now numbers.now outcomes.now.tally) }
+{
+    match asking {
+        Asking::Counts => counts_text(alloc, numbers, outcomes),
+        Asking::Show => show_text(alloc, rows),
+        Asking::ShowOf(peer) => show_text_of(alloc, rows, peer),
+        Asking::Stop => Ok(Bytes::new(alloc)),
+    }
+}
+
+// The packets that are copied in the turns' own thread: all where there is no worker.
+fn inline_of(workers: u32, packets: u64) -> u64
+    ensures { result ≡ (if workers == 0 then packets else 0) }
+{
+    if workers == 0 { packets } else { 0 }
+}
+
+/// A relay that is asked after some whole turns.
+#[derive(Drop)]
+pub(super) struct Held<'a, O: OutLink, T> {
+    pub(super) server: &'a Server<O, T>,
+    pub(super) workers: u32,
+    pub(super) turns: u64,
+}
+
+impl<O: OutLink + Drop, T> Replies for Held<'_, O, T> {
+    ghost texts = { λ held. λ starved reading copied. reply_text (settings_in held.server.now) (first_in held.server.now) held.workers
+        (record (standing_in held.turns held.server.now) { starved = starved }) reading copied };
+
+    fn reply(
         &self,
         alloc: Global,
-        workers: u32,
-        turns: u64,
-        copied: &CopyCount,
-    ) -> Result<Numbers, AllocError>
-        ensures { IfOk result (λ numbers. numbers
-            ≡ numbers_at (settings_in self.now) (first_in self.now) workers (standing_in turns self.now) copied.now) }
-    {
-        let counts = self.counts;
-        let rows = self.members(alloc)?.len() as u64;
-        Ok(Numbers {
-            turns,
-            datagrams: counts.datagrams,
-            packets: counts.packets,
-            updated: counts.updated,
-            torn: counts.torn,
-            sent: counts.sent.saturating_add(copied.sent),
-            unsent: counts.unsent.saturating_add(copied.unsent),
-            inline: if workers == 0 { counts.packets } else { 0 },
-            starved: counts.starved,
-            late: counts.late,
-            owed: self.publisher.owed(),
-            published: self.publisher.published(),
-            rows,
-        })
-    }
-
-    // The answer to `counts`.
-    fn counts_text(
-        &self,
-        alloc: Global,
-        workers: u32,
-        turns: u64,
-        copied: &CopyCount,
-    ) -> Result<Bytes, AllocError>
-        ensures { IfOk result (λ text. text
-            ≡ counts_text (settings_in self.now) (first_in self.now) workers (standing_in turns self.now) copied.now) }
-    {
-        let numbers = self.numbers(alloc, workers, turns, copied)?;
-        let mut text = Bytes::new(alloc);
-        numbers.append(&mut text)?;
-        self.outcomes.append(&mut text)?;
-        Ok(text)
-    }
-
-    // The answer to `show`.
-    fn show_text(&self, alloc: Global) -> Result<Bytes, AllocError>
-        ensures { IfOk result (λ text. text
-            ≡ rows_text (rows_after (settings_in self.now) (first_in self.now) (events_in self.now))) }
-    {
-        let rows = self.members(alloc)?;
-        let mut text = Bytes::new(alloc);
-        append_rows(&mut text, rows.as_slice())?;
-        Ok(text)
-    }
-
-    // The answer to `show PEER`.
-    fn show_text_of(&self, alloc: Global, peer: &Peer) -> Result<Bytes, AllocError>
-        ensures { IfOk result (λ text. text
-            ≡ rows_text (rows_at (endpoint_of peer.now) (rows_after (settings_in self.now) (first_in self.now) (events_in self.now)))) }
-    {
-        let rows = self.members(alloc)?;
-        let mut text = Bytes::new(alloc);
-        match Endpoint::of(peer) {
-            Some(endpoint) => append_rows_of(&mut text, rows.as_slice(), &endpoint)?,
-            None => {}
-        }
-        Ok(text)
-    }
-
-    /// What answers a line that was read so, after this number of whole turns.
-    pub(super) fn reply(
-        &self,
-        alloc: Global,
-        workers: u32,
-        turns: u64,
+        starved: u64,
         reading: &Result<Asking, Reason>,
         copied: &CopyCount,
-    ) -> Result<Bytes, AllocError>
-        ensures { IfOk result (λ text. text
-            ≡ reply_text (settings_in self.now) (first_in self.now) workers (standing_in turns self.now) reading.now copied.now) }
-    {
+    ) -> Result<Bytes, AllocError> {
         match reading {
-            Ok(Asking::Counts) => self.counts_text(alloc, workers, turns, copied),
-            Ok(Asking::Show) => self.show_text(alloc),
-            Ok(Asking::ShowOf(peer)) => self.show_text_of(alloc, peer),
             Ok(Asking::Stop) => Ok(Bytes::new(alloc)),
+            Ok(asking) => {
+                let server = self.server;
+                let counts = server.counts;
+                let rows = server.relay.rows(alloc)?;
+                let numbers = Numbers {
+                    turns: self.turns,
+                    datagrams: counts.datagrams,
+                    packets: counts.packets,
+                    updated: counts.updated,
+                    torn: counts.torn,
+                    sent: counts.sent.saturating_add(copied.sent),
+                    unsent: counts.unsent.saturating_add(copied.unsent),
+                    inline: inline_of(self.workers, counts.packets),
+                    starved,
+                    late: counts.late,
+                    owed: server.publisher.owed(),
+                    published: server.publisher.published(),
+                    rows: rows.len() as u64,
+                };
+                told_text(alloc, asking, rows.as_slice(), &numbers, &server.outcomes)
+            }
             Err(reason) => bad_text(alloc, *reason),
         }
     }

@@ -23,7 +23,7 @@ returns-in-Ok g c =
 pub starve-requires : goal.starve-requires
 starve-requires g c =
     let few : tally_in c.feed_packet.new.self ≤ tally_in c.args.self.now + 0 = (c.in-Err-feed_packet.ensures.none (alone c.args.self.now)).few in
-    record { few = omega (arith, few, c.requires.tally) }
+    record { few = omega (arith, few, c.requires.tally); number = omega arith }
 
 pub returns-in-Err-feed_packet : goal.returns-in-Err-feed_packet
 returns-in-Err-feed_packet g c =

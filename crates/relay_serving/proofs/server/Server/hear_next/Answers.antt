@@ -23,7 +23,7 @@ returns-in-Ok g c =
 pub starve-requires : goal.starve-requires
 starve-requires g c =
     let few : tally_in c.hear_datagram.new.self ≤ tally_in c.args.self.now + 0 = (c.in-Err-hear_datagram.ensures.none (alone c.args.self.now)).few in
-    record { few = omega (arith, few, c.requires.few) }
+    record { few = omega (arith, few, c.requires.few); number = omega arith }
 
 pub returns-in-Err-hear_datagram : goal.returns-in-Err-hear_datagram
 returns-in-Err-hear_datagram g c =
