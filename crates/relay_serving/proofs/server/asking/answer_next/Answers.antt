@@ -14,35 +14,44 @@ pub returns-in-Ok-Nothing-clause-next : goal.returns-in-Ok-Nothing-clause-next
 returns-in-Ok-Nothing-clause-next g c =
     let got = c.in-Ok-Nothing in
     let waits = c.recv.ensures.waits in
-    let is = subst (Answers LinkClosed (g.K.Link.coming c.args.control.now.link) (g.K.Link.coming c.recv.new.self)) (ap (λ (one : Got). link_answer one c.recv.new.buf) got.field-0-is) got.ensures.answer in
-    (Silent, omega arith, record {
-      came = one_answer LinkClosed _ _ _ NothingCame is refl;
-      cause = got.ensures.cause.quiet;
-      untried = record { same_tried = c.recv.ensures.sends; same_faults = c.recv.ensures.apart };
-      same_copies = refl;
-      unwaited = omega (arith, waits);
-    })
+    let is = subst (Answers LinkClosed (g.K.Link.coming c.args.control.now.link) (g.K.Link.coming c.recv.new.self)) (ap (λ (one : Got). link_answer one c.recv.new.buf) got.field-0-is) got.ensures.answer in (
+      Silent,
+      omega arith,
+      record {
+        came = one_answer LinkClosed _ _ _ NothingCame is refl;
+        cause = got.ensures.cause.quiet;
+        untried = record { same_tried = c.recv.ensures.sends; same_faults = c.recv.ensures.apart };
+        same_copies = refl;
+        unwaited = omega (arith, waits);
+      },
+    )
 
 pub returns-in-Ok-Closed-clause-next : goal.returns-in-Ok-Closed-clause-next
 returns-in-Ok-Closed-clause-next g c =
     let got = c.in-Ok-Closed in
     let waits = c.recv.ensures.waits in
-    let is = subst (Answers LinkClosed (g.K.Link.coming c.args.control.now.link) (g.K.Link.coming c.recv.new.self)) (ap (λ (one : Got). link_answer one c.recv.new.buf) got.field-0-is) got.ensures.answer in
-    (Shut, omega arith, record {
-      came = one_answer LinkClosed _ _ _ LinkClosed is refl;
-      cause = got.ensures.cause.quiet;
-      untried = record { same_tried = c.recv.ensures.sends; same_faults = c.recv.ensures.apart };
-      same_copies = refl;
-      unwaited = omega (arith, waits);
-    })
+    let is = subst (Answers LinkClosed (g.K.Link.coming c.args.control.now.link) (g.K.Link.coming c.recv.new.self)) (ap (λ (one : Got). link_answer one c.recv.new.buf) got.field-0-is) got.ensures.answer in (
+      Shut,
+      omega arith,
+      record {
+        came = one_answer LinkClosed _ _ _ LinkClosed is refl;
+        cause = got.ensures.cause.quiet;
+        untried = record { same_tried = c.recv.ensures.sends; same_faults = c.recv.ensures.apart };
+        same_copies = refl;
+        unwaited = omega (arith, waits);
+      },
+    )
 
 pub returns-in-Err-clause-next : goal.returns-in-Err-clause-next
 returns-in-Err-clause-next g c =
-    let waits = c.recv.ensures.waits in
-    (Failed, omega arith, record {
-      came = c.in-Err.ensures.kept;
-      cause = c.in-Err.ensures.cause.failed;
-      untried = record { same_tried = c.recv.ensures.sends; same_faults = c.recv.ensures.apart };
-      same_copies = refl;
-      unwaited = omega (arith, waits);
-    })
+    let waits = c.recv.ensures.waits in (
+      Failed,
+      omega arith,
+      record {
+        came = c.in-Err.ensures.kept;
+        cause = c.in-Err.ensures.cause.failed;
+        untried = record { same_tried = c.recv.ensures.sends; same_faults = c.recv.ensures.apart };
+        same_copies = refl;
+        unwaited = omega (arith, waits);
+      },
+    )
