@@ -22,7 +22,7 @@ struct Noted<'a, D> {
     sending: u64,
 }
 
-fn noted<D>(device: D, calls: &Cell<u64>, asking: u64, sending: u64) -> Noted<'_, D> {
+fn with_notes<D>(device: D, calls: &Cell<u64>, asking: u64, sending: u64) -> Noted<'_, D> {
     Noted {
         device,
         calls,
@@ -106,7 +106,7 @@ fn calls_of<R: Threads + Wait + Abort + 'static>(rt: &R, alloc: Global) -> Resul
     } = devices_of(alloc, &TWO_TURNS)?;
     let lines = MemLink::new(alloc, link_answers(alloc, TWO_TURNS.from, LINES)?);
     let mut control = Some(Control {
-        link: noted(lines, &calls, 5, 6),
+        link: with_notes(lines, &calls, 5, 6),
         copies: MemCopies::new(Vec::new(alloc)),
     });
     let mut outs = Vec::with_capacity(alloc, 1)?;
@@ -121,9 +121,9 @@ fn calls_of<R: Threads + Wait + Abort + 'static>(rt: &R, alloc: Global) -> Resul
         rt,
         alloc,
         plan,
-        &mut noted(link, &calls, 2, 3),
-        &mut noted(feed, &calls, 4, 0),
-        &mut noted(clock, &calls, 1, 0),
+        &mut with_notes(link, &calls, 2, 3),
+        &mut with_notes(feed, &calls, 4, 0),
+        &mut with_notes(clock, &calls, 1, 0),
         &mut words,
         Outs::from(outs),
         &mut spawner,
