@@ -5,10 +5,15 @@ use amt_ports::{Got, Link, MemOut, OutLink, UdpControl, UdpFeed, UdpLink};
 use amt_values::{Ip, Peer};
 use relay_serving::{Control, Copies, CopyCount};
 use replication_workers::Outs;
-use serving_commands::{CountedOut, HostLive, Live, OpenFault, SharedCopies};
+use serving_commands::{CountedOut, HostLive, HostRelay, Live, OpenFault, SharedCopies};
 use std::alloc::{AllocError, Global};
+use std::fs::Files;
 use std::mem::replace;
+use std::net::Net;
+use std::random::RandomSource;
+use std::sync::Wait;
 use std::thread::Threads;
+use std::time::Clock;
 use std::{io, thread};
 
 const OTHER_FAMILY: Peer = Peer {
@@ -80,8 +85,11 @@ fn may_be_asked<K: Link, N: Copies, O: OutLink + Drop>(
 }
 
 // Whether a relay is opened with such a socket; it is given back.
-fn is_opened_at(alloc: Global, live: &mut HostLive<HostRuntime>, slots: u32, ends: &Ends) -> bool {
-    let Ok(mut devices) = live.open_relay(&ANY, &ANY, &Some(ends.at), slots) else {
+fn is_opened_at<R>(alloc: Global, live: &mut HostLive<R>, slots: u32, ends: &Ends) -> bool
+where
+    R: Net + Threads + Wait + Clock + RandomSource + Files + Copy + Drop + 'static,
+{
+    let Ok(HostRelay { mut devices }) = live.open_relay(&ANY, &ANY, &Some(ends.at), slots) else {
         return false;
     };
     let outs = replace(&mut devices.outs, Outs::new(alloc));
@@ -89,7 +97,7 @@ fn is_opened_at(alloc: Global, live: &mut HostLive<HostRuntime>, slots: u32, end
         Some(control) => may_be_asked(alloc, control, outs, ends),
         None => false,
     };
-    live.return_relay(devices);
+    live.return_relay(HostRelay { devices });
     asked
 }
 

@@ -5,10 +5,16 @@ use crate::loopback::{ANY, FarEnd, WAIT_MS, buffer};
 use amt_ports::{Feed, FeedGot, Link, OutLink, UdpFeed, UdpLink};
 use amt_values::Peer;
 use replication_workers::Outs;
-use serving_commands::{HostLive, Live, OpenFault};
+use serving_commands::{HostLive, HostRelay, Live, OpenFault};
 use std::alloc::Global;
+use std::fs::Files;
 use std::io;
 use std::mem::replace;
+use std::net::Net;
+use std::random::RandomSource;
+use std::sync::Wait;
+use std::thread::Threads;
+use std::time::Clock;
 
 // Whether the feed takes what the far end sends to this peer.
 fn feed_is_at(alloc: Global, feed: &mut UdpFeed, at: &Peer, far: &FarEnd) -> bool {
@@ -64,14 +70,17 @@ fn free_places(rt: &HostRuntime) -> io::Result<Places> {
 }
 
 // Whether a relay's link and feed are where it was asked, and its links out send from there.
-fn is_relay_at(
+fn is_relay_at<R>(
     alloc: Global,
-    live: &mut HostLive<HostRuntime>,
+    live: &mut HostLive<R>,
     at: &Places,
     slots: u32,
     far: &FarEnd,
-) -> bool {
-    let Ok(mut devices) = live.open_relay(&at.listen, &at.feed, &None, slots) else {
+) -> bool
+where
+    R: Net + Threads + Wait + Clock + RandomSource + Files + Copy + Drop + 'static,
+{
+    let Ok(HostRelay { mut devices }) = live.open_relay(&at.listen, &at.feed, &None, slots) else {
         return false;
     };
     let link = link_is_at(&mut devices.link, &at.listen, far);
@@ -79,17 +88,15 @@ fn is_relay_at(
     let outs = replace(&mut devices.outs, Outs::new(alloc));
     let outs = all_send_from(outs, slots, &at.listen, far);
     let unasked = devices.control.is_none();
-    live.return_relay(devices);
+    live.return_relay(HostRelay { devices });
     link && feed && outs && unasked
 }
 
 // Whether a gateway's link and control socket are where it was asked, and its link out sends from there.
-fn is_gateway_at(
-    alloc: Global,
-    live: &mut HostLive<HostRuntime>,
-    at: &Places,
-    far: &FarEnd,
-) -> bool {
+fn is_gateway_at<R>(alloc: Global, live: &mut HostLive<R>, at: &Places, far: &FarEnd) -> bool
+where
+    R: Net + Threads + Wait + Clock + RandomSource + Files + Copy + Drop + 'static,
+{
     let Ok(mut devices) = live.open_gateway(&at.listen, &at.feed) else {
         return false;
     };
@@ -101,7 +108,10 @@ fn is_gateway_at(
 }
 
 // What was given back is closed, so each can have the same places after the other.
-fn all_are_at(alloc: Global, live: &mut HostLive<HostRuntime>, at: &Places, far: &FarEnd) -> bool {
+fn all_are_at<R>(alloc: Global, live: &mut HostLive<R>, at: &Places, far: &FarEnd) -> bool
+where
+    R: Net + Threads + Wait + Clock + RandomSource + Files + Copy + Drop + 'static,
+{
     is_relay_at(alloc, live, at, 0, far)
         && is_relay_at(alloc, live, at, 1, far)
         && is_gateway_at(alloc, live, at, far)
