@@ -790,7 +790,7 @@ def real_relay_is_counted_and_stopped(command):
 @contextlib.contextmanager
 def gateway_of(command, folder):
     settings = {"family": "v4", "source": loopback.HOST, "listen": f"{ADDRESS}:{LISTEN}", "deliver": f"{ADDRESS}:{DELIVER}",
-                "control": f"{ADDRESS}:{GATEWAY_CONTROL}", "relay": f"{ADDRESS}:{AMT_PORT}"}
+                "control": f"{ADDRESS}:{GATEWAY_CONTROL}", "discovery": f"{ADDRESS}:{AMT_PORT}"}
     path = loopback.write_settings(pathlib.Path(folder) / "gateway.toml", settings)
     made = loopback.End([*command, "gateway", path], ADDRESS, [LISTEN, GATEWAY_CONTROL])
     try:
