@@ -13,11 +13,7 @@ mod devices;
 #[cfg(test)]
 mod gateway;
 #[cfg(test)]
-mod gateway_asked;
-#[cfg(test)]
 mod gateway_ends;
-#[cfg(test)]
-mod ordered;
 #[cfg(test)]
 mod relay;
 #[cfg(test)]
