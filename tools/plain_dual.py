@@ -28,7 +28,7 @@ PEERS = ["198.51.100.7:5000", "198.51.100.7:5001", "198.51.100.8:5000", "[2001:d
 
 # Fields of lines that may be bad: any one, and those of a line that adds a gateway, or makes a socket call.
 FIELDS = ["v4", "v6", "v5", "g", "open", "leave", "exclude", "both", "up", "at", "set", "gateway", "239.1.1.1", "ff3e::1", "x",
-          "007", "-", "\u00e4"]
+          "007", "-", "true", "\u00e4"]
 ADDRESSES4, ADDRESSES6 = ["10.0.0.3", "10.0.0.3", "fe80::3", "x"], ["fe80::3", "fe80::3", "10.0.0.3", "x"]
 ADDED = [["gateway"], ["g", "v6", "h", "h", "h", "H", "at"], ["198.51.100.9:5", "198.51.100.9:5", *PEERS, "x"]]
 GATEWAY_LINE = {"dual": [*ADDED, ADDRESSES4, ADDRESSES6], "pair": [*ADDED, ["v4", "v4", "v6", "v5"], ADDRESSES4]}
@@ -122,6 +122,8 @@ class Random:
             self.lines.append("set secrets 1")
         if dice.random() < 0.2:
             self.lines.append(f"set groups {dice.randrange(1, 3)}")
+        if dice.random() < 0.3:
+            self.lines.append(f"set linux_gateways {dice.choice(['true', 'true', 'false'])}")
         self.machines = []
         gateways = dice.choice([1, 2])
         for name, peer in zip(["g", *dice.sample(NAMES, gateways - 1)], dice.sample(PEERS, gateways)):

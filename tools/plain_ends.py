@@ -171,7 +171,8 @@ class Gateway:
         if kind == 2:
             self.has_relay = True
             return self.begin()
-        return self.query(octets[2:8], nonce, octets[12:-18])
+        names_gateway = octets[1] % 2
+        return self.query(octets[2:8], nonce, octets[12:-18] if names_gateway else octets[12:])
 
     def query(self, mac, nonce, inner):
         if inner[0] >> 4 != (6 if self.v6 else 4):
@@ -248,7 +249,8 @@ class Ends:
         self.address, self.packet_limit = script.addresses["relay"], numbers["packet_limit"]
         lifetime = 1000 * numbers["robustness"] * numbers["query_seconds"] + 100 * numbers["response_tenths"]
         limits = [numbers[it] for it in ("endpoints", "groups", "sources")]
-        self.relay = Relay(numbers["secrets"], limits, lifetime, queries_of(numbers, script.addresses))
+        queries = queries_of(numbers, script.addresses)
+        self.relay = Relay(numbers["secrets"], limits, lifetime, queries, script.is_for_linux)
         self.relay.secrets = [script.secret]
         self.peer, self.ups, self.downs, self.number = peer_text((self.address, 2268)), [], [], 0
         self.endpoints = {peer: Endpoint(text_of(peer[0]), peer[1]) for _, peer, _ in script.gateways}
@@ -324,7 +326,7 @@ class Ends:
         if kind == 1:
             return "advertised", [(endpoint.peer, b"\2\0\0\0" + octets[4:] + self.address)]
         if kind == 3:
-            return self.relay.request(endpoint, octets[4:], octets[1] % 2)
+            return self.relay.request(endpoint, octets[4:], octets[1])
         return self.relay.update(endpoint, octets[8:12], octets[2:8], records_in(octets[12:]))
 
     def packet(self, packet):
@@ -374,6 +376,7 @@ DEFAULTS = {"robustness": 2, "query_seconds": 125, "response_tenths": 100, "secr
 RANGES = {"robustness": (1, 7), "query_seconds": (1, 31744), "response_tenths": (1, 31744), "secrets": (1, 4),
           "endpoints": (1, 65536), "groups": (1, 256), "sources": (1, 64), "packet_limit": (20, 65000)}
 ADDRESSES = {"relay": (4, 16), "query4": (4,), "query6": (16,)}
+FLAGS = ["false", "true"]
 WORDS = ["at", "secret", "mc", "show", "up", "down", "set", "gateway"]
 CALLS = {"open": 4, "change": 3, "close": 2, "leave": 1}
 
@@ -403,7 +406,7 @@ class Script:
 
     def __init__(self, kind, octets):
         self.is_dual = kind == "dual"
-        self.numbers, self.addresses, self.secret, self.given = {}, {}, bytes(32), set()
+        self.numbers, self.addresses, self.secret, self.is_for_linux, self.given = {}, {}, bytes(32), False, set()
         self.gateways, self.events = [], []
         lines = octets.split(b"\n")
         ended = lines[-1] == b""
@@ -459,11 +462,12 @@ class Script:
     def setting_reasons(self, more):
         yield len(more) != 2 and "count"
         for key in more[:1]:
-            yield key not in [*RANGES, *ADDRESSES, "secret"] and "word"
+            yield key not in [*RANGES, *ADDRESSES, "secret", "linux_gateways"] and "word"
             yield key in self.given and "twice"
             for text in more[1:2]:
                 yield key in ADDRESSES and not address_in(text, ADDRESSES[key]) and "address"
                 yield key == "secret" and not is_secret(text) and "hex"
+                yield key == "linux_gateways" and text not in FLAGS and "range"
                 yield key in RANGES and not is_number(text) and "number"
                 yield key in RANGES and is_number(text) and not RANGES[key][0] <= int(text) <= RANGES[key][1] and "range"
 
@@ -506,6 +510,8 @@ class Script:
                 self.numbers[key] = int(text)
             elif key == "secret":
                 self.secret = bytes.fromhex(text)
+            elif key == "linux_gateways":
+                self.is_for_linux = text == "true"
             else:
                 self.addresses[key] = address_in(text)
         elif words[0] == "gateway":

@@ -5,7 +5,8 @@ usage: tools/plain-relay.sh AMT [SCRIPTS [SEED]]
 The model keeps every accepted entry and reckons what stands from the whole list anew, each time it is asked. It knows no
 map, no index and no expiry queue, and is written from docs/FORMATS.md and docs/BEHAVIOUR.md alone. A script has requests, updates
 and teardowns of few endpoints of both families with good, old and forged MACs, packets, secrets, changed limits, and moments
-before, at and after the end of a lifetime; Discoveries, and datagrams that are refused. What all endpoints together want is merged anew before and after each step.
+before, at and after the end of a lifetime; Discoveries, and datagrams that are refused; some relays serve Linux's
+gateways. What all endpoints together want is merged anew before and after each step.
 It prints the first script whose text differs, and ends with status 1.
 """
 import hashlib
@@ -143,9 +144,9 @@ def changes(before, after):
 
 
 class Relay:
-    def __init__(self, keep, limits, lifetime=LIFETIME, queries=(QUERY4, QUERY6)):
+    def __init__(self, keep, limits, lifetime=LIFETIME, queries=(QUERY4, QUERY6), is_for_linux=False):
         self.keep, self.secrets, self.limits, self.now, self.log = keep, [bytes(32)], limits, 0, []
-        self.lifetime, self.queries = lifetime, queries
+        self.lifetime, self.queries, self.is_for_linux = lifetime, queries, is_for_linux
 
     def filters(self):
         return stands(self.log, self.now, self.lifetime)
@@ -156,9 +157,13 @@ class Relay:
     def is_good(self, endpoint, nonce, mac):
         return any(endpoint.mac(secret, nonce) == mac for secret in self.secrets[-self.keep:])
 
-    def request(self, endpoint, nonce, v6):
+    def request(self, endpoint, nonce, flags):
+        """A Request's answer, by its second octet. Linux's gateways say by 80 what others say by 01, and get Queries without flags."""
         limited = self.live(self.filters()) >= self.limits[0]
-        query = bytes([4, 3 if limited else 1]) + endpoint.mac(self.secrets[-1], nonce) + nonce + self.queries[v6] + endpoint.named
+        v6 = flags % 2 == 1 or self.is_for_linux and flags == 0x80
+        seen = b"" if self.is_for_linux else endpoint.named
+        said = 0 if self.is_for_linux else 2 * limited + 1
+        query = bytes([4, said]) + endpoint.mac(self.secrets[-1], nonce) + nonce + self.queries[v6] + seen
         return f"queried {'v6' if v6 else 'v4'}{' limited' if limited else ''}", [(endpoint.peer, query)]
 
     def passed(self, endpoint, records, before, later):
@@ -231,10 +236,14 @@ class Script:
     def __init__(self, dice):
         self.lines, self.text, self.outcomes = ["set relay 192.0.2.1"], [], Counter()
         keep, most = dice.choice((1, 2, 2, 3, 4)), [dice.choice(it) for it in ((1, 2, 3, 4), (1, 2, 3, 3), (2, 3, 4, 4))]
+        for_linux = dice.choice((None, None, "false", "true", "true"))
+        if for_linux:
+            self.lines.append(f"set linux_gateways {for_linux}")
         if keep != 2 or dice.random() < 0.5:
             self.lines.append(f"set secrets {keep}")
         self.lines += [f"set {key} {number}" for key, number in zip(("endpoints", "groups", "sources"), most)]
-        self.relay, self.most, self.dice, self.macs, self.filters = Relay(keep, most), most, dice, [bytes(32)], {}
+        self.relay = Relay(keep, most, is_for_linux=for_linux == "true")
+        self.most, self.dice, self.macs, self.filters = most, dice, [bytes(32)], {}
 
     def say(self, line, outcome, sends=()):
         self.lines.append(line)
@@ -260,7 +269,8 @@ class Script:
             octets = b"\x05\0" + mac + nonce + report_of(records, v6)
             self.say(f"dg {endpoint.peer} {octets.hex()}", *relay.update(endpoint, nonce, mac, records))
         elif what < 0.55:
-            self.say(f"dg {endpoint.peer} {(bytes([3, v6, 0, 0]) + nonce).hex()}", *relay.request(endpoint, nonce, v6))
+            flags = dice.choice((0, 1, 0x80, 0x80, 0x81, dice.randrange(256)))
+            self.say(f"dg {endpoint.peer} {(bytes([3, flags, 0, 0]) + nonce).hex()}", *relay.request(endpoint, nonce, flags))
         elif what < 0.62:
             octets = b"\x07\0" + mac + nonce + endpoint.named
             self.say(f"dg {dice.choice(ENDPOINTS).peer} {octets.hex()}", *relay.teardown(endpoint, nonce, mac))

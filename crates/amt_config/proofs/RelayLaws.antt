@@ -49,6 +49,7 @@ same_values table one other h k =
       rotate_seconds = same_number (codes "rotate_seconds") rotate_range table _ _ h.rotate k.rotate i;
       secrets = numbers Secrets i;
       workers = same_number (codes "workers") workers_range table _ _ h.workers k.workers i;
+      linux_gateways = same_boolean (key_word words.LinuxGateways) table _ _ h.linux_gateways k.linux_gateways i;
     }
 
 pub right_keys : (table : Members) (config : RelayConfig) → HasValues table config → AreRight table (relay_keys (table_anywhere table))
@@ -66,7 +67,8 @@ right_keys table config h =
     (also (number Robustness) (also (number QuerySeconds) (also (number ResponseTenths) (also (number Endpoints) (also (number Groups) (also (number Sources) (also (number PacketLimit)
     (also (right_number (codes "rotate_seconds") rotate_range table config.rotate_seconds h.rotate)
     (also (number Secrets)
-    (also (right_number (codes "workers") workers_range table config.workers h.workers) tt)))))))))))))))))
+    (also (right_number (codes "workers") workers_range table config.workers h.workers)
+    (also (right_boolean (key_word words.LinuxGateways) table config.linux_gateways h.linux_gateways) tt))))))))))))))))))
 
 -- numbers that fail together aren't lawful
 more_than : (a b : ℕ) → a ≤ b → b < a → ⊥

@@ -45,6 +45,7 @@ relay_keys anywhere =
     ∷ optional (codes "rotate_seconds") (a_whole rotate_range)
     ∷ number_key Secrets
     ∷ optional (codes "workers") (a_whole workers_range)
+    ∷ optional (key_word words.LinuxGateways) a_boolean
     ∷ []
 
 -- whether the table says that a control socket may be anywhere
@@ -63,6 +64,7 @@ settings_of config = record {
   secrets = config.secrets;
   limits = record { endpoints = config.endpoints; groups = config.groups; sources = config.sources };
   packet_limit = config.packet_limit;
+  linux_gateways = config.linux_gateways;
 }
 
 -- each field is the value of its key, or the key's default
@@ -77,6 +79,7 @@ pub record HasValues (table : Members) (config : RelayConfig) : Type 0 where
   pub numbers : (key : NumberKey) → HasWholeNumber (number_word key) (range_of key) table (number_at (settings_of config) key)
   pub rotate : HasWholeNumber (codes "rotate_seconds") rotate_range table config.rotate_seconds
   pub workers : HasWholeNumber (codes "workers") workers_range table config.workers
+  pub linux_gateways : HasBoolean (key_word words.LinuxGateways) table config.linux_gateways
 
 -- the table is a relay's: its keys are known, its values are these, and together a relay may have them
 pub record RelayConfigOf (table : Members) (config : RelayConfig) : Type 0 where

@@ -38,6 +38,8 @@ pub struct RelayConfig {
     pub secrets: u32,
     /// The threads that copy packets; with 0 the relay's own thread does.
     pub workers: u32,
+    /// Whether the relay serves Linux's own gateways too.
+    pub linux_gateways: bool,
 }
 
 impl RelayConfig {
@@ -59,6 +61,7 @@ impl RelayConfig {
                 sources: self.sources,
             },
             packet_limit: self.packet_limit,
+            linux_gateways: self.linux_gateways,
         }
     }
 }
@@ -93,5 +96,7 @@ pub struct GatewayConfig {
     pub relay: Option<Peer>,
     /// The port of a relay that an Advertisement names by its address alone.
     pub port: u16,
+    /// Whether the relay is Linux's own.
+    pub linux_relay: bool,
     pub joins: Joins,
 }

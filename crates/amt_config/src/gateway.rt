@@ -9,6 +9,7 @@ ghost use Rattle.amt_config.specs.{declared.{config.GatewayConfig.{GatewayConfig
 use crate::arrays::tables_at;
 use crate::config::GatewayConfig;
 use crate::fault::ConfigFault;
+use crate::flags::flag_at;
 use crate::forms::{AddressOf, FamilyWord, Place};
 use crate::joins::read_joins;
 use crate::key::FileKey;
@@ -51,6 +52,7 @@ fn read_of_family(
     let source = required(alloc, table, FileKey::Source, &AddressOf(family))?;
     let relay = optional(alloc, table, FileKey::Relay, &Place)?;
     let port = number_at(alloc, table, FileKey::Port, PORT)?;
+    let linux_relay = flag_at(alloc, table, FileKey::LinuxRelay)?;
     let items = tables_at(alloc, table, FileKey::Join)?;
     let joins = match read_joins(alloc, family, items) {
         Ok(joins) => joins,
@@ -65,6 +67,7 @@ fn read_of_family(
         source,
         relay,
         port: port as u16,
+        linux_relay,
         joins,
     })
 }

@@ -80,6 +80,7 @@ fn read_values(alloc: Global, table: &Table) -> Result<RelayConfig, ConfigFault>
         rotate_seconds: number_at(alloc, table, FileKey::RotateSeconds, ROTATE_SECONDS)?,
         secrets: number_of(alloc, table, NumberKey::Secrets)?,
         workers: number_at(alloc, table, FileKey::Workers, WORKERS)?,
+        linux_gateways: flag_at(alloc, table, FileKey::LinuxGateways)?,
     })
 }
 

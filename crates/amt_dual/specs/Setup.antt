@@ -25,7 +25,7 @@ source_by host v6 = if v6 then V6 host.source6 else V4 host.source4
 
 -- the machine of a family: it discovers the relay at its own address, as a gateway of that family alone would
 abbrev pub machine_of : Settings → Bool → DualHost → Host
-machine_of settings v6 host = record { name = host.name; peer = host.peer; settings = settings_of_host settings v6 (source_by host v6) }
+machine_of settings v6 host = record { name = host.name; peer = host.peer; settings = settings_of_host settings v6 false (source_by host v6) }
 
 -- the machines of a gateway, of which the IPv4 one comes first
 abbrev pub machines_of : Settings → DualHost → List Host

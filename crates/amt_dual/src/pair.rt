@@ -97,8 +97,8 @@ impl DualPair {
 
     /// Adds a gateway of two idle machines at moment 0: its name, the peer as which the relay sees both, and
     /// the sources of their reports. Both discover the relay at its own address; the nonces of the IPv4 machine
-    /// begin with 1, and those of the IPv6 one with 2^31 + 1. To be called before the first step: of a pair to
-    /// which a gateway was added later no schedule leads, so nothing is said of it.
+    /// begin with 1, and those of the IPv6 one with 2^31 + 1. Nothing is said of a pair to which a gateway was
+    /// added after the first step.
     pub fn add(
         &mut self,
         alloc: Global,
@@ -400,7 +400,7 @@ fn machine(
     source: Ip,
 ) -> Result<NamedGateway, AllocError>
     requires { is_of_family (family_by v6) source ≡ true }
-    ensures host { IfOk result (λ named. host_of named ≡ record { name = name.now; peer = peer.now; settings = record { v6 = v6; discovery = relay.now; relay = NoRelay; port = amt_port; source = source } }) }
+    ensures host { IfOk result (λ named. host_of named ≡ record { name = name.now; peer = peer.now; settings = record { v6 = v6; discovery = relay.now; relay = NoRelay; port = amt_port; source = source; linux_relay = false } }) }
     ensures stands { IfOk result (λ named. IsMemberAt named (at_first (host_of named))) }
 {
     let settings = GatewaySettings {
@@ -409,6 +409,7 @@ fn machine(
         relay: None,
         port: AMT_PORT,
         source,
+        linux_relay: false,
     };
     let first = if v6 { FIRST_NONCE6 } else { FIRST_NONCE4 };
     Ok(NamedGateway {

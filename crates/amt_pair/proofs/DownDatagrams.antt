@@ -1,15 +1,15 @@
 -- The datagrams that a relay sends, and what a gateway reads in them: each Query states the relay's lifetime.
-use Rattle.std.proofs.{Common.{◌≡◌, ℕ, ◌+◌, ◌≤◌, ◌<◌, ◌^◌, Bool, true, false, List, [], ◌∷◌, ◌++◌, length, Option, Some, None, Ok, refl, sym, ap, ◌∙◌, arith, length-append}}
+use Rattle.std.{proofs.Common.{◌≡◌, ℕ, ◌+◌, ◌≤◌, ◌<◌, ◌^◌, Bool, true, false, List, [], ◌∷◌, ◌++◌, length, Option, Some, None, Ok, refl, sym, ap, ◌∙◌, arith, length-append}, specs.Option.{is_some}}
 use Rattle.byteorder.specs.{Endian.{big_bytes}, Numbers.{length-bytes_high_first}}
 use Rattle.amt_values.specs.{EndpointValue.{EndpointValue}, declared.{address.Ip.{Ip, TheVariants.{V4, V6}}, mac.Mac48.{Mac48}, peer.Peer.{Peer}}}
-use Rattle.amt_messages.specs.{Layout.{gateway_octets, query_flags, spelling_of}, Messages.{IsGateway}, Refusal.{message_of}, declared.message.Message.{Message, TheVariants.{Advertisement, Query, Multicast}}}
+use Rattle.amt_messages.specs.{Layout.{named_gateway_octets, query_flags, spelling_of}, Messages.{IsGateway}, Refusal.{message_of}, declared.message.Message.{Message, TheVariants.{Advertisement, Query, Multicast}}}
 use Rattle.inner_datagrams.specs.{declared.inner.InnerFault.{InnerFault}, Fault.{first_inner_fault}, Reading.{inner_at, payload_in}}
 use Rattle.response_mac.specs.{ResponseMac.{mac_of}, declared.secret.Secret.{Secret}}
 use Rattle.source_filter.specs.declared.query.QueryFields.{QueryFields}
 use Rattle.socket_merge.specs.FullReport.{family_by}
 use Rattle.endpoint_membership.specs.declared.limits.Limits.{Limits}
 use Rattle.gateway_machine.specs.{General.{carried_query, general_query_in, unless_fault}, Timing.{lifetime_of}, declared.{event.GatewayEvent.TheVariants.{Datagram as Heard}, settings.GatewaySettings.{GatewaySettings}}}
-use Rattle.relay_machine.{specs.{Queries.{general_query, query_fields, query_for}, Settings.{AreLawfulSettings, membership_interval_ms}, declared.{sends.OneSend.{OneSend}, settings.Settings.{Settings}}}, proofs.QuerySizes.{general_query-limits, query_may_carry}}
+use Rattle.relay_machine.{specs.{Queries.{gateway_named, general_query, query_fields, query_for, says_limited}, Settings.{AreLawfulSettings, membership_interval_ms}, declared.{sends.OneSend.{OneSend}, settings.Settings.{Settings}}}, proofs.QuerySizes.{general_query-limits, named-few, query_may_carry}}
 use Rattle.amt_pair.{specs.Queries.{HasQuerySources}, proofs.{GatewaySteps.{States}, HeardQueries.{length-mac_of, query_for-read}, QueryTimes.{lifetime_of-query_fields}, ReadQueries.{general_query_in-general_query}, SpelledKinds.{kind_of, same-kind}}}
 
 -- the inner octets are a General Query of the relay, of one family or the other
@@ -111,17 +111,17 @@ down-query settings secret v6 limited source nonce small form =
     let mac = mac_of secret source nonce in
     let inner = general_query settings v6 in
     let fits = (query_may_carry inner settings v6 18 (omega arith) refl).1 in
-    let tail = length-append (big_bytes 2 source.port) (big_bytes 16 source.address) in
-    let size = query-length mac.0 nonce inner (gateway_octets source) (query_flags limited true) (length-mac_of secret source nonce) in
-    let port = length-bytes_high_first 2 source.port in
-    let address = length-bytes_high_first 16 source.address in
+    let seen = gateway_named settings source in
+    let says = says_limited settings limited in
+    let tail = named-few settings source in
+    let size = query-length mac.0 nonce inner (named_gateway_octets seen) (query_flags says (is_some seen)) (length-mac_of secret source nonce) in
     let written = query_for-read settings secret v6 limited source nonce small form in
     record {
       short = omega arith;
       query = λ other_limited other_mac other_nonce other_inner other_seen is.
-          let both : Ok (Query limited mac nonce inner (Some source)) ≡ Ok (Query other_limited other_mac other_nonce other_inner other_seen) = sym written ∙ is in
-          let same : Query limited mac nonce inner (Some source) ≡ Query other_limited other_mac other_nonce other_inner other_seen = cc in
-          (v6, sym (same-inner limited other_limited mac other_mac nonce other_nonce inner other_inner (Some source) other_seen same));
+          let both : Ok (Query says mac nonce inner seen) ≡ Ok (Query other_limited other_mac other_nonce other_inner other_seen) = sym written ∙ is in
+          let same : Query says mac nonce inner seen ≡ Query other_limited other_mac other_nonce other_inner other_seen = cc in
+          (v6, sym (same-inner says other_limited mac other_mac nonce other_nonce inner other_inner seen other_seen same));
     }
 
 pub down-copy : (settings : Settings) (to : EndpointValue) (packet : List ℕ) → length packet ≤ 65000 → IsDown settings (record { to = to; bytes = spelling_of (Multicast packet) })

@@ -48,7 +48,7 @@ silent-quiet outcome exchange = record { moment = refl; query = refl; none = λ 
 silent-ask : (settings : GatewaySettings) (exchange next : Exchange) → next.moment ≡ exchange.moment → next.query ≡ exchange.query
     → (is_active next.state ≡ true → is_active exchange.state ≡ true) → IsSilent exchange (ask settings next)
 silent-ask settings exchange next moment query leaves =
-    record { moment = moment; query = query; none = λ history. reports-request next history next.relay settings.v6 next.nonce; leaves = leaves }
+    record { moment = moment; query = query; none = λ history. reports-request next history next.relay settings next.nonce; leaves = leaves }
 
 module _ (settings : GatewaySettings) (exchange : Exchange) where
   silent-request : IsSilent exchange (ask settings (requesting exchange))

@@ -1,4 +1,5 @@
 pub mod Alone
+pub mod AskedFamilies
 pub mod BothEnds
 pub mod CourseSteps
 pub mod Courses

@@ -1,14 +1,14 @@
 -- What the entry that a datagram of a gateway makes at the relay is for one gateway, as it sees the log.
 use Rattle.std.proofs.{Common.{◌≡◌, ℕ, ◌+◌, ◌≤◌, Bool, true, false, cond, List, length, reverse, All, Contains, Some, None, Result, Ok, refl, sym, ap, subst, ◌∙◌, arith, inl, inr}, lemmas.{Bool.{cases_Bool, cond-false, cond-true, true≢false}, Map.Views.{tells_apart}}}
 use Rattle.amt_values.{specs.{Endpoint.{endpoint_of}, EndpointValue.{EndpointValue}, Group.{is_forwardable}, declared.{address.Ip.{Ip}, mac.Mac48.{Mac48}, peer.Peer.{Peer}}}, proofs.{OnePeer.{one_peer}, Orders.{endpoint_order-exact}}}
-use Rattle.amt_messages.specs.{Layout.{spelling_of}, Refusal.{message_of}, declared.message.Message.{Message, TheVariants.{Update, Teardown}}}
+use Rattle.amt_messages.specs.{Refusal.{message_of}, declared.message.Message.{Message, TheVariants.{Update, Teardown}}}
 use Rattle.response_mac.specs.declared.secret.Secret.{Secret}
 use Rattle.source_filter.specs.declared.record.Record.{Record}
 use Rattle.endpoint_membership.specs.{EndpointGroup.{same_endpoint}, Log.{brought, on_group, records_at}, declared.change.Change.{Change, TheVariants.{Mark, Reported}}}
-use Rattle.gateway_machine.specs.{Answers.{same_peer}, Timing.{farewell_ms}}
+use Rattle.gateway_machine.specs.{Answers.{same_peer}, Sends.{octets_of}, Timing.{farewell_ms}}
 use Rattle.relay_machine.specs.{Accepted.{entry_of}, Events.{now_of}, Updates.{forwardable_records, report_in}, declared.{event.Event.{Event}, outcome.Unlawful.{Unlawful}, settings.Settings.{Settings}}}
 use Rattle.amt_pair.specs.{Entries.{is_change_of}, Schedule.{Upward, delivery_up}, Sent.{Sent, SentReport, report_by as report_as, report_of, report_with}, Setup.{IsPeer}}
-use Rattle.amt_pair.proofs.{Alone.{filter_every}, HeardQueries.{same_peer-is, same_peer-itself}, RelaySteps.{IsTornDown, IsUpdated, datagram-entry}, Sights.{Sight, alone_at, brought-seen, report_seen}, SpelledKinds.{same-kind, update-inner}, TunnelEntries.{IsMadeBy, IsPrompt, in_group, made-cleared, made-other, reported-here}, TunnelReports.{IsForwarded}, Upwards.{IsUpward}}
+use Rattle.amt_pair.proofs.{Alone.{filter_every}, HeardQueries.{same_peer-is, same_peer-itself}, RelaySteps.{IsTornDown, IsUpdated, datagram-entry}, Sights.{Sight, alone_at, brought-seen, report_seen}, SpelledKinds.{same-sent, update-inner}, TunnelEntries.{IsMadeBy, IsPrompt, in_group, made-cleared, made-other, reported-here}, TunnelReports.{IsForwarded}, Upwards.{IsUpward}}
 
 -- endpoints that are told to be one are one
 
@@ -18,20 +18,20 @@ same_endpoint-is one other same = tells_apart endpoint_order-exact one other sam
 -- ---- the report in such a datagram
 
 -- what was written as an Update carries the report that is read
-update-report : (sent : Sent) (written : Message) (mac : Mac48) (nonce : ℕ) (inner : List ℕ) (records : List Record)
+update-report : (sent : Sent) (written : Message) (for_linux : Bool) (mac : Mac48) (nonce : ℕ) (inner : List ℕ) (records : List Record)
     → ((mac : Mac48) (nonce : ℕ) (inner : List ℕ) → written ≡ Update mac nonce inner → length mac.0 ≡ 6)
-    → message_of (spelling_of written) ≡ Ok (Update mac nonce inner) → report_in inner ≡ Ok records → report_with written sent ≡ report_as (Ok records) sent
-update-report sent (Update written_mac written_nonce written) mac nonce inner records six read is =
+    → message_of (octets_of written for_linux) ≡ Ok (Update mac nonce inner) → report_in inner ≡ Ok records → report_with written sent ≡ report_as (Ok records) sent
+update-report sent (Update written_mac written_nonce written) for_linux mac nonce inner records six read is =
     let same = update-inner written_mac mac written_nonce nonce written inner (six written_mac written_nonce written refl) read in
     ap (λ (reading : Result (List Record) Unlawful). report_as reading sent) (ap report_in (sym same) ∙ is)
-update-report sent other mac nonce inner records six read is = let kind = same-kind other (Update mac nonce inner) read in absurd (omega arith)
+update-report sent other for_linux mac nonce inner records six read is = let kind = same-sent other for_linux (Update mac nonce inner) read in absurd (omega arith)
 
 -- what is read as a Teardown carries none
-teardown-report : (sent : Sent) (written : Message) (mac : Mac48) (nonce : ℕ) (named : EndpointValue) → message_of (spelling_of written) ≡ Ok (Teardown mac nonce named)
+teardown-report : (sent : Sent) (written : Message) (for_linux : Bool) (mac : Mac48) (nonce : ℕ) (named : EndpointValue) → message_of (octets_of written for_linux) ≡ Ok (Teardown mac nonce named)
     → report_with written sent ≡ None
-teardown-report sent (Update other_mac other inner) mac nonce named read =
-    let kind = same-kind (Update other_mac other inner) (Teardown mac nonce named) read in absurd (omega arith)
-teardown-report sent other mac nonce named read = refl
+teardown-report sent (Update other_mac other inner) for_linux mac nonce named read =
+    let kind = same-sent (Update other_mac other inner) for_linux (Teardown mac nonce named) read in absurd (omega arith)
+teardown-report sent other for_linux mac nonce named read = refl
 
 -- ---- the entry as a gateway sees it
 
@@ -86,7 +86,7 @@ module _ (sight : Sight) (peer : Peer) (endpoint : EndpointValue) (sees : IsSigh
     | inr mark ↦ subst (λ (one : Change). IsMadeBy endpoint sent one None) (sym mark) (made-other endpoint sent (Mark (brought change)) refl)
   ]
 
-  module _ (updated : IsUpdated (endpoint_of upward.from) (message_of (spelling_of upward.sent.sending.message)) now change) where
+  module _ (updated : IsUpdated (endpoint_of upward.from) (message_of (octets_of upward.sent.sending.message upward.sent.sending.for_linux)) now change) where
     abbrev report : SentReport
     report = record {
       records = updated.records;
@@ -97,7 +97,7 @@ module _ (sight : Sight) (peer : Peer) (endpoint : EndpointValue) (sees : IsSigh
     }
 
     carried : report_of upward.sent ≡ Some report
-    carried = update-report upward.sent upward.sent.sending.message updated.mac updated.nonce updated.inner updated.records is_upward.mac updated.read updated.report
+    carried = update-report upward.sent upward.sent.sending.message upward.sent.sending.for_linux updated.mac updated.nonce updated.inner updated.records is_upward.mac updated.read updated.report
 
     early : brought change ≤ now
     early = subst (λ (one : Change). brought one ≤ now) (sym updated.is) (omega arith)
@@ -146,9 +146,9 @@ module _ (sight : Sight) (peer : Peer) (endpoint : EndpointValue) (sees : IsSigh
   no-report true none = none
   no-report false none = refl
 
-  torn-entry : IsTornDown (message_of (spelling_of upward.sent.sending.message)) now change → IsEntryOf sight endpoint sent now upward change
+  torn-entry : IsTornDown (message_of (octets_of upward.sent.sending.message upward.sent.sending.for_linux)) now change → IsEntryOf sight endpoint sent now upward change
   torn-entry torn =
-      other-entry (no-report (sight.is_from upward) (teardown-report upward.sent upward.sent.sending.message torn.mac torn.nonce torn.named torn.read))
+      other-entry (no-report (sight.is_from upward) (teardown-report upward.sent upward.sent.sending.message upward.sent.sending.for_linux torn.mac torn.nonce torn.named torn.read))
       (subst (λ (one : Change). brought one ≤ now) (sym torn.is) (omega arith))
       (made-seen (subst (λ (one : Change). IsMadeBy endpoint sent one None) (sym torn.is) (made-cleared endpoint torn.named sent now)))
 
@@ -158,7 +158,7 @@ pub delivery-entry : (sight : Sight) (settings : Settings) (first : Secret) (eve
     → ((report : SentReport) → report_seen sight upward ≡ Some report → Contains sent report × All IsForwarded report.records)
     → entry_of settings first events (delivery_up upward) ≡ Some change → IsEntryOf sight endpoint sent (now_of events) upward change
 delivery-entry sight settings first events peer endpoint upward sent change sees peer_is own is_upward known is =
-    elim (datagram-entry settings first events (spelling_of upward.sent.sending.message) upward.from change is) [
+    elim (datagram-entry settings first events (octets_of upward.sent.sending.message upward.sent.sending.for_linux) upward.from change is) [
       | inl updated ↦ updated-entry sight peer endpoint sees peer_is own upward is_upward sent (now_of events) change updated known
       | inr torn ↦ torn-entry sight peer endpoint sees peer_is own upward is_upward sent (now_of events) change torn
     ]

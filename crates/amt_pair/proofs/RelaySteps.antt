@@ -7,8 +7,9 @@ use Rattle.inner_datagrams.specs.{Head.{head_of}, declared.head.Head.{Head}}
 use Rattle.response_mac.specs.{ResponseMac.{SecretsValue, is_good}, declared.secret.Secret.{Secret}}
 use Rattle.source_filter.specs.declared.record.Record.{Record}
 use Rattle.endpoint_membership.specs.{Memberships.{is_live}, Table.{limit_passed, memberships_now}, declared.{change.Change.{Change, TheVariants.{Clear, Reported}}, limits.LimitFault.{LimitFault}}}
+use Rattle.gateway_machine.specs.Sends.{octets_of}
 use Rattle.relay_machine.specs.{Accepted.{accepted_log, change_of, handed_out}, Answers.{answer_of, sends_of}, EventAnswer.{EventAnswer, datagram_answer, entered, is_limited, limited_answer, message_answer, packet_answer, quiet, replied, teardown_answer, update_answer}, EventSize.{IsPayload}, Events.{limits_at, now_of, secrets_of, settings_at}}
-use Rattle.relay_machine.specs.{Packets.{by_head, copies, head_to_copy, targets_at}, Queries.{query_for}, Settings.{AreLawfulSettings, table_settings_of}, Updates.{forwardable_records, report_in}, declared.{event.Event.{Event, TheVariants.{Moment, Datagram, Packet, Rotate, Limits}}, number_key.NumberKey.TheVariants.{PacketLimit}, outcome.{Outcome.{Outcome, TheVariants.{TooBig}}, Unlawful.{Unlawful}}, settings.Settings.{Settings}}}
+use Rattle.relay_machine.specs.{Packets.{by_head, copies, head_to_copy, targets_at}, Queries.{asks_for_mld, query_for}, Settings.{AreLawfulSettings, table_settings_of}, Updates.{forwardable_records, report_in}, declared.{event.Event.{Event, TheVariants.{Moment, Datagram, Packet, Rotate, Limits}}, number_key.NumberKey.TheVariants.{PacketLimit}, outcome.{Outcome.{Outcome, TheVariants.{TooBig}}, Unlawful.{Unlawful}}, settings.Settings.{Settings}}}
 use Rattle.amt_pair.{specs.Schedule.{Upward, delivery_up}, proofs.{DownDatagrams.{IsDown, down-advertisement, down-copy, down-limits, down-query}, SpelledKinds.{gateway-of, small-nonce}, Upwards.{IsUpward}}}
 
 -- ---- which datagrams make an entry
@@ -85,14 +86,15 @@ module _ (settings : Settings) where
     answered-teardown true true named kind = answered-entry _ (Clear named moment) kind
     answered-teardown true false named kind = answered-entry _ (Clear named moment) kind
 
-  module _ (secrets : SecretsValue) (moment : ℕ) (log : List Change) where
-    answered-message : (source : EndpointValue) (message : Message) → IsAnswered (Some source) (Ok message) moment (message_answer settings secrets moment log source message)
+  module _ (secrets : SecretsValue) (moment : ℕ) (log : List Change) (octets : List ℕ) where
+    answered-message : (source : EndpointValue) (message : Message) → IsAnswered (Some source) (Ok message) moment (message_answer settings secrets moment log octets source message)
     answered-message source (Discovery nonce) =
         answered-reply _ _ moment _ source (Advertisement nonce settings.relay) (λ fits. down-advertisement settings source nonce settings.relay)
     answered-message source (Request v6 nonce) =
         let limited = is_limited (table_settings_of settings) log in
-        answered-reply _ _ moment _ source (query_for settings secrets.current v6 limited source nonce)
-        (λ fits. down-query settings secrets.current v6 limited source nonce (fits.nonce v6 nonce refl) (fits.source source refl))
+        let mld = asks_for_mld settings octets v6 in
+        answered-reply _ _ moment _ source (query_for settings secrets.current mld limited source nonce)
+        (λ fits. down-query settings secrets.current mld limited source nonce (fits.nonce v6 nonce refl) (fits.source source refl))
     answered-message source (Update mac nonce inner) =
         answered-update _ _ moment (is_good secrets source nonce mac) (report_in inner) (λ records. limit_passed (table_settings_of settings) log source records moment) source
         (λ records report. inl (record { source = source; mac = mac; nonce = nonce; inner = inner; records = records; found_is = refl; read = refl; report = report; is = refl }))
@@ -102,7 +104,7 @@ module _ (settings : Settings) where
     answered-message source message = answered-quiet _ _ moment _
 
     answered-datagram : (found : Option EndpointValue) (reading : Result Message Refused)
-        → IsAnswered found reading moment (datagram_answer settings secrets moment log found reading)
+        → IsAnswered found reading moment (datagram_answer settings secrets moment log octets found reading)
     answered-datagram None reading = answered-quiet _ _ moment _
     answered-datagram (Some source) (Err refusal) = answered-quiet _ _ moment _
     answered-datagram (Some source) (Ok message) = answered-message source message
@@ -143,14 +145,14 @@ module _ (settings : Settings) (first : Secret) (events : List Event) where
 
   answered : (bytes : List ℕ) (from : Peer) → IsAnswered (settings_at settings events) (endpoint_of from) (message_of bytes) (now_of events) (answer_of settings first events (Datagram bytes from))
   answered bytes from =
-      answered-datagram (settings_at settings events) (secrets_of settings first events) (now_of events) (accepted_log settings first events) (endpoint_of from) (message_of bytes)
+      answered-datagram (settings_at settings events) (secrets_of settings first events) (now_of events) (accepted_log settings first events) bytes (endpoint_of from) (message_of bytes)
 
   -- and on a datagram of a gateway
   pub down-delivery : (upward : Upward) → IsUpward upward → All (IsDown settings) (sends_of settings first events (delivery_up upward))
   down-delivery upward is =
       All-weaker (IsDown (settings_at settings events)) (IsDown settings) (down-limits settings (limits_at settings events)) (sends_of settings first events (delivery_up upward))
-      ((answered (spelling_of upward.sent.sending.message) upward.from).down (record {
-        nonce = λ v6 nonce read. small-nonce upward.sent.sending.message v6 nonce read;
+      ((answered (octets_of upward.sent.sending.message upward.sent.sending.for_linux) upward.from).down (record {
+        nonce = λ v6 nonce read. small-nonce upward.sent.sending.message upward.sent.sending.for_linux v6 nonce read;
         source = λ source found. gateway-of upward.from source is.peer found;
       }))
 

@@ -3,6 +3,7 @@ use Rattle.std.proofs.{Common.{◌≡◌, ℕ, ◌%◌, ◌<◌, ◌≤◌, ◌^
 use Rattle.byteorder.specs.{Endian.{big_bytes, big_number}, Numbers.{big_from-bytes, length-bytes_high_first}}
 use Rattle.amt_values.specs.{Address.{IsAddress, has_ipv4_prefix, is_compatible, is_mapped, number_of}, Endpoint.{endpoint_of}, EndpointValue.{EndpointValue}, declared.{address.Ip.{Ip, TheVariants.{V4, V6}}, mac.Mac48.{Mac48}, peer.Peer.{Peer}}}
 use Rattle.amt_messages.{specs.{Layout.{Spells, spelling_of}, Messages.{IsGateway}, Refusal.{message_of}, declared.message.Message.{Message, TheVariants.{Discovery, Advertisement, Request, Query, Update, Multicast, Teardown}}}, proofs.Unrefused.{read_is_spelled}}
+use Rattle.gateway_machine.specs.Sends.{octets_of}
 use Rattle.amt_pair.specs.Setup.{IsPeer}
 
 -- the number of a message's type
@@ -30,19 +31,36 @@ spelling-kind message = refl
 pub same-kind : (written read : Message) → message_of (spelling_of written) ≡ Ok read → kind_of written ≡ kind_of read
 same-kind written read is = sym (spelling-kind written) ∙ spelled-kind read (spelling_of written) (read_is_spelled (spelling_of written) read is)
 
+-- so is what is read of a gateway's message, for a Linux relay or another
+sent-kind : (written : Message) (for_linux : Bool) → slice_index (octets_of written for_linux) 0 ≡ kind_of written
+sent-kind (Request true nonce) true = refl
+sent-kind (Request true nonce) false = refl
+sent-kind (Request false nonce) for_linux = refl
+sent-kind (Discovery nonce) for_linux = refl
+sent-kind message for_linux = refl
+
+pub same-sent : (written : Message) (for_linux : Bool) (read : Message) → message_of (octets_of written for_linux) ≡ Ok read → kind_of written ≡ kind_of read
+same-sent written for_linux read is =
+    let octets = octets_of written for_linux in sym (sent-kind written for_linux) ∙ spelled-kind read octets (read_is_spelled octets read is)
+
 -- the nonce that is read of a Request has 32 bits
-request-nonce : (written : Message) (v6 : Bool) (nonce : ℕ) → kind_of written ≡ 3 → nonce ≡ big_number 4 (drop 4 (spelling_of written)) → nonce < 2 ^ 32
-request-nonce (Request written_v6 written) v6 nonce kind field =
-    let back = ap (big_number 4) (sym (append-nil (big_bytes 4 written))) ∙ big_from-bytes 4 written [] in
+request-tail : (v6 for_linux : Bool) (nonce : ℕ) → drop 4 (octets_of (Request v6 nonce) for_linux) ≡ big_bytes 4 nonce
+request-tail true true nonce = refl
+request-tail true false nonce = refl
+request-tail false for_linux nonce = refl
+
+request-nonce : (written : Message) (for_linux : Bool) (nonce : ℕ) → kind_of written ≡ 3 → nonce ≡ big_number 4 (drop 4 (octets_of written for_linux)) → nonce < 2 ^ 32
+request-nonce (Request v6 written) for_linux nonce kind field =
+    let back = ap (big_number 4) (request-tail v6 for_linux written ∙ sym (append-nil (big_bytes 4 written))) ∙ big_from-bytes 4 written [] in
     let small : written % 256 ^ 4 < 256 ^ 4 = mod-lt written (omega arith) in
     let whole : nonce ≡ written % 256 ^ 4 = field ∙ back in
     omega arith
-request-nonce written v6 nonce kind field = absurd (omega arith)
+request-nonce written for_linux nonce kind field = absurd (omega arith)
 
-pub small-nonce : (written : Message) (v6 : Bool) (nonce : ℕ) → message_of (spelling_of written) ≡ Ok (Request v6 nonce) → nonce < 2 ^ 32
-small-nonce written v6 nonce is =
-    request-nonce written v6 nonce (same-kind written (Request v6 nonce) is)
-    (read_is_spelled (spelling_of written) (Request v6 nonce) is).nonce_field
+pub small-nonce : (written : Message) (for_linux v6 : Bool) (nonce : ℕ) → message_of (octets_of written for_linux) ≡ Ok (Request v6 nonce) → nonce < 2 ^ 32
+small-nonce written for_linux v6 nonce is =
+    request-nonce written for_linux nonce (same-sent written for_linux (Request v6 nonce) is)
+    (read_is_spelled (octets_of written for_linux) (Request v6 nonce) is).nonce_field
 
 -- the inner octets of an Update, whose MAC has its six octets, are read as they were written
 pub update-inner : (mac other : Mac48) (nonce other_nonce : ℕ) (inner other_inner : List ℕ) → length mac.0 ≡ 6

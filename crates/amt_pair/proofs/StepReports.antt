@@ -1,11 +1,11 @@
 -- The reports among what a gateway sends with an event.
 use Rattle.std.{proofs.{Common.{◌≡◌, ℕ, ◌≤◌, Bool, true, false, List, [], ◌∷◌, ◌++◌, map, reverse, Option, Some, None, Ok, refl, ap, subst, ◌∙◌, arith}, lemmas.List.{map-append, Elements.{filter_map-append}}}, specs.List.{All, filter_map}}
 use Rattle.amt_values.specs.{EndpointValue.{EndpointValue}, declared.{mac.Mac48.{Mac48}, peer.Peer.{Peer}}}
-use Rattle.amt_messages.specs.declared.message.Message.TheVariants.{Request, Teardown}
+use Rattle.amt_messages.specs.declared.message.Message.TheVariants.{Teardown}
 use Rattle.source_filter.specs.declared.record.Record.{Record}
 use Rattle.group_records.specs.{Written.{report_length}, declared.family.Family.{Family}}
 use Rattle.socket_merge.{specs.{Changes.{change_records}, History.{AcceptedCall, latest, open_sockets}}, proofs.{Changed.{changes-are}, Reports.{full-within_raw}, ShortChanges.{short-changes}}}
-use Rattle.gateway_machine.specs.{Reports.{full_records, report_datagram, same_endpoint, teardown, teardown_by, teardown_if, update}, Sends.{Sending, to_relay}, Settings.{HasSourceOfFamily, family_of}, Timing.{farewell_ms}, declared.{exchange.{Exchange.{Exchange}, LastQuery.{LastQuery}}, settings.GatewaySettings.{GatewaySettings}}}
+use Rattle.gateway_machine.specs.{Reports.{full_records, report_datagram, same_endpoint, teardown, teardown_by, teardown_if, update}, Sends.{Sending, request_to, to_relay}, Settings.{HasSourceOfFamily, family_of}, Timing.{farewell_ms}, declared.{exchange.{Exchange.{Exchange}, LastQuery.{LastQuery}}, settings.GatewaySettings.{GatewaySettings}}}
 use Rattle.relay_machine.specs.Updates.{report_in}
 use Rattle.amt_pair.{specs.Sent.{Sent, SentReport, report_of}, proofs.{Histories.{IsHistoryOf}, ReadReports.{report_in-report_datagram}, ReportedAddresses.{MayStand, changed-may_stand, full-may_stand}, Tunnel.{see, send}}}
 
@@ -78,9 +78,9 @@ module _ (exchange : Exchange) (history : List AcceptedCall) where
 
   -- ---- messages without a report
 
-  pub reports-request : (relay : Option Peer) (v6 : Bool) (nonce : ℕ) → reports_in exchange history (to_relay relay false (Request v6 nonce)) ≡ []
-  reports-request None v6 nonce = refl
-  reports-request (Some relay) v6 nonce = refl
+  pub reports-request : (relay : Option Peer) (settings : GatewaySettings) (nonce : ℕ) → reports_in exchange history (request_to relay settings nonce) ≡ []
+  reports-request None settings nonce = refl
+  reports-request (Some relay) settings nonce = refl
 
   reports-torn_down : (relay : Option Peer) (mac : Mac48) (nonce : ℕ) (before : EndpointValue) → reports_in exchange history (to_relay relay false (Teardown mac nonce before)) ≡ []
   reports-torn_down None mac nonce before = refl

@@ -27,10 +27,10 @@ pub record PairSetup : Type 0 where
 abbrev pub relay_peer : Settings → Peer
 relay_peer settings = record { ip = settings.relay; port = amt_port }
 
--- a gateway of the family that discovers the relay at its own address
-abbrev pub settings_of_host : Settings → Bool → Ip → GatewaySettings
-settings_of_host settings v6 source =
-    record { v6 = v6; discovery = relay_peer settings; relay = None; port = amt_port; source = source }
+-- a gateway of the family that discovers the relay at its own address, and may ask it as a Linux relay
+abbrev pub settings_of_host : Settings → Bool → Bool → Ip → GatewaySettings
+settings_of_host settings v6 linux_relay source =
+    record { v6 = v6; discovery = relay_peer settings; relay = None; port = amt_port; source = source; linux_relay = linux_relay }
 
 -- the nonce of the first message of each gateway of a pair
 abbrev pub first_nonce : ℕ
@@ -45,7 +45,7 @@ pub record IsPeer (peer : Peer) : Type 0 where
 pub record IsHost (settings : Settings) (host : Host) : Type 0 where
   pub peer : IsPeer host.peer
   pub source : HasSourceOfFamily host.settings
-  pub settings_are : host.settings ≡ settings_of_host settings host.settings.v6 host.settings.source
+  pub settings_are : host.settings ≡ settings_of_host settings host.settings.v6 host.settings.linux_relay host.settings.source
 
 -- no two gateways have one name or one peer
 pub record AreApart (hosts : List Host) : Type 0 where

@@ -25,7 +25,9 @@ pub use agreement::{
 pub use datagrams::{DownDatagrams, UpDatagram, UpDatagrams, keep_copies};
 pub use event::PairEvent;
 pub use gateways::{Gateways, NamedGateway};
-pub use laws::{relays_queries_are_accepted, steps_extend_schedules};
+pub use laws::{
+    relays_queries_are_accepted, requests_ask_for_their_family, steps_extend_schedules,
+};
 pub use numbered::Numbered;
 pub use pair::{Pair, PairFault};
 pub use ranges::{gateway_event_fits, peer_fits, settings_fit};

@@ -86,16 +86,17 @@ impl Pair {
         })
     }
 
-    /// Adds an idle gateway at moment 0: its name, the peer as which the relay sees it, its family, and the
-    /// source of its reports, an address of that family. It discovers the relay at the relay's own address,
-    /// and its nonces begin with 1. To be called before the first step: of a pair to which a gateway was added
-    /// later no schedule leads, so nothing is said of it.
+    /// Adds an idle gateway at moment 0: its name, the peer as which the relay sees it, its family, whether it
+    /// asks as if the relay were Linux's, and the source of its reports, an address of that family. It discovers
+    /// the relay at the relay's own address, and its nonces begin with 1. Nothing is said of a pair to which a
+    /// gateway was added after the first step.
     pub fn add(
         &mut self,
         alloc: Global,
         name: &[u8],
         peer: Peer,
         v6: bool,
+        linux_relay: bool,
         source: Ip,
     ) -> Result<(), PairFault>
         requires { is_of_family (family_by v6) source ≡ true }
@@ -104,7 +105,7 @@ impl Pair {
             → OnOk result (PairAt self.new (record {
               settings = settings;
               secret = secret;
-              hosts = hosts ++ record { name = name.now; peer = peer; settings = settings_of_host settings v6 source } ∷ [];
+              hosts = hosts ++ record { name = name.now; peer = peer; settings = settings_of_host settings v6 linux_relay source } ∷ [];
             }) []) }
         ensures taken { IsErrOf result PairFault.Taken ↔ (has_taken name.now peer (hosts_of self.old) ≡ true) }
         ensures same { OnErr result (self.new ≡ self.old) }
@@ -119,6 +120,7 @@ impl Pair {
             relay: None,
             port: AMT_PORT,
             source,
+            linux_relay,
         };
         let Ok(gateway) = Gateway::new(alloc, settings, FIRST_NONCE) else {
             return Err(PairFault::Memory);

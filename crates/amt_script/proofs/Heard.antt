@@ -26,6 +26,7 @@ allowed_by_line (settings.Relay ip) line says = tt
 allowed_by_line (settings.Query4 number) line says = tt
 allowed_by_line (settings.Query6 number) line says = tt
 allowed_by_line (settings.Secret secret) line says = tt
+allowed_by_line (settings.LinuxGateways flag) line says = tt
 
 allowed_more : (given : List Setting) (setting : Setting) → AllByRecursion IsAllowed given → IsAllowed setting → AllByRecursion IsAllowed (given ++ setting ∷ [])
 allowed_more [] setting all here = (here, tt)

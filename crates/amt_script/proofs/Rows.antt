@@ -2,7 +2,7 @@
 use Rattle.std.{proofs.{Common.{◌≡◌, ◌<◌, ◌^◌, ℕ, List, ◌∷◌, ◌++◌, map, Some, refl, rules, arith}, lemmas.List.Elements.{All-from_recursion}}, specs.List.{AllByRecursion}}
 use Rattle.relay_machine.{specs.{declared.number_key.{NumberKey.{NumberKey, TheVariants.{Robustness}}, TheConstants.{NUMBER_KEYS}}, Settings.{number_row}}, proofs.Numbers.{All-keys}}
 use Rattle.script_lines.proofs.WordTables.{first_kind, one_kind, one_rest}
-use Rattle.amt_script.specs.{declared.kind.{Key.{TheVariants.{Relay, Query4, Query6, Number, Secret}}, Kind.{Kind}}, Row.{words_of}}
+use Rattle.amt_script.specs.{declared.kind.{Key.{TheVariants.{Relay, Query4, Query6, Number, Secret, LinuxGateways}}, Kind.{Kind}}, Row.{words_of}}
 use Rattle.amt_script.specs.declared.kind.Kind.TheVariants as kinds
 
 pub most_small : (key : NumberKey) → (number_row key).most < 2 ^ 32
@@ -12,7 +12,7 @@ most_small =
 
 abbrev all_kinds : List Kind
 all_kinds =
-    kinds.Moment ∷ kinds.Secret ∷ kinds.Limits ∷ kinds.Datagram ∷ kinds.Packet ∷ kinds.Show ∷ kinds.Set Relay ∷ kinds.Set Query4 ∷ kinds.Set Query6 ∷ kinds.Set Secret
+    kinds.Moment ∷ kinds.Secret ∷ kinds.Limits ∷ kinds.Datagram ∷ kinds.Packet ∷ kinds.Show ∷ kinds.Set Relay ∷ kinds.Set Query4 ∷ kinds.Set Query6 ∷ kinds.Set Secret ∷ kinds.Set LinuxGateways
     ∷ map (λ key. kinds.Set (Number key)) NUMBER_KEYS
 
 first : (kind : Kind) (values : List (List ℕ)) → first_kind words_of all_kinds (words_of kind ++ values) ≡ Some kind

@@ -2,7 +2,7 @@
 use Rattle.std.proofs.Common.{◌≡◌, ℕ, List, [], ◌∷◌, ◌++◌, sym, ◌∙◌, arith}
 use Rattle.relay_machine.specs.{declared.event.Event.{Event}, Settings.{number_row}}
 use Rattle.relay_machine.specs.declared.event.Event.TheVariants as events
-use Rattle.script_lines.{specs.{declared.reason.Reason.{Reason}, Form.{Fails, a_moment, a_number, some_octets, a_secret, an_address, an_address4, an_address6, a_peer}}, proofs.Forms.{moment_fits, number_fits, octets_fit, secret_fits, address_fits, address4_fits, address6_fits, peer_fits, none_fits, one_fits, two_fit, three_fit}}
+use Rattle.script_lines.{specs.{declared.reason.Reason.{Reason}, Form.{Fails, a_flag, a_moment, a_number, some_octets, a_secret, an_address, an_address4, an_address6, a_peer}}, proofs.Forms.{flag_fits, moment_fits, number_fits, octets_fit, secret_fits, address_fits, address4_fits, address6_fits, peer_fits, none_fits, one_fits, two_fit, three_fit}}
 use Rattle.amt_script.{specs.{declared.{kind.{Key.{Key}, Kind.{Kind}}, script.RelayItem.{RelayItem}, setting.Setting.{Setting}}, Fault.{FailsAs}, Row.{a_limit, words_of}, Says.{IsLimitText, SaysSetting, SaysEvent, SaysItem}, Setting.{key_of}}, proofs.Rows.{most_small, same_kind}}
 use Rattle.amt_script.specs.declared.kind.Kind.TheVariants as kinds
 use Rattle.amt_script.specs.declared.script.RelayItem.TheVariants as items
@@ -48,6 +48,11 @@ setting_is_fit (settings.Secret secret) line says = record {
   values = says.text ∷ [];
   parts = says.parts;
   fits = one_fits a_secret says.text (secret_fits secret says.text says.names);
+}
+setting_is_fit (settings.LinuxGateways flag) line says = record {
+  values = says.text ∷ [];
+  parts = says.parts;
+  fits = one_fits a_flag says.text (flag_fits flag says.text says.names);
 }
 
 limit_fits : (limit : ℕ) (text : List ℕ) → IsLimitText limit text → (reason : Reason) → Fails a_limit text reason → ⊥

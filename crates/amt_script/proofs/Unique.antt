@@ -1,11 +1,11 @@
 -- A line says one thing.
-use Rattle.std.proofs.Common.{◌≡◌, ℕ, List, refl, sym, subst, ap, ◌∙◌, arith}
+use Rattle.std.proofs.Common.{◌≡◌, ℕ, Bool, List, refl, sym, subst, ap, ◌∙◌, arith}
 use Rattle.amt_values.{specs.{declared.{address.Ip.{Ip, TheVariants.{V4, V6}}, peer.Peer.{Peer}}, Text.{IsIpText, IsPeerText}}, proofs.Unique.{IsIpText-unique, IsPeerText-unique}}
 use Rattle.endpoint_membership.specs.declared.limits.Limits.{Limits}
 use Rattle.response_mac.specs.declared.secret.Secret.{Secret}
 use Rattle.relay_machine.specs.{declared.{event.Event.{Event}, number_key.NumberKey.{NumberKey}}, Settings.{number_row}}
 use Rattle.relay_machine.specs.declared.event.Event.TheVariants as events
-use Rattle.script_lines.{specs.Form.{IsMomentText, IsNumberText, IsHexText, IsSecretText}, proofs.Forms.{IsHexText-unique, IsSecretText-unique, IsMomentText-unique, IsNumberText-unique, address4, address6, one_field}}
+use Rattle.script_lines.{specs.Form.{IsFlagText, IsMomentText, IsNumberText, IsHexText, IsSecretText}, proofs.Forms.{IsFlagText-unique, IsHexText-unique, IsSecretText-unique, IsMomentText-unique, IsNumberText-unique, address4, address6, one_field}}
 use Rattle.amt_script.specs.declared.kind.Kind.TheVariants as kinds
 use Rattle.amt_script.{specs.{declared.{script.RelayItem.{RelayItem}, setting.Setting.{Setting}}, Says.{IsLimitText, SaysSetting, SaysEvent, SaysItem}, Setting.{key_of}}, proofs.{Rows.{most_small, same_kind}, Says.{kind_of_event, kind_of_item, setting_is_fit, item_is_fit}}}
 use Rattle.amt_script.specs.declared.script.RelayItem.TheVariants as items
@@ -36,6 +36,8 @@ SaysSetting-same (settings.Number key x) (settings.Number other y) line same h k
     same_number key other x y line keys_same h k
 SaysSetting-same (settings.Secret x) (settings.Secret y) line same h k =
     ap (λ (v : Secret). settings.Secret v) (one_field _ IsSecretText IsSecretText-unique x y line h k)
+SaysSetting-same (settings.LinuxGateways x) (settings.LinuxGateways y) line same h k =
+    ap (λ (v : Bool). settings.LinuxGateways v) (one_field _ IsFlagText IsFlagText-unique x y line h k)
 SaysSetting-same one other line same h k = cc same
 
 set_key : (one other : Setting) (line : List (List ℕ)) → SaysSetting one line → SaysSetting other line → key_of one ≡ key_of other

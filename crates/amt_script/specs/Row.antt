@@ -5,7 +5,7 @@ use Rattle.relay_machine.specs.declared.number_key.NumberKey.TheVariants as numb
 use Rattle.amt_script.specs.declared.kind.{Key.{Key}, Kind.{Kind}}
 use Rattle.amt_script.specs.declared.kind.Key.TheVariants as keys
 use Rattle.amt_script.specs.declared.kind.Kind.TheVariants as kinds
-use Rattle.script_lines.specs.{Form.{Form, a_moment, a_number, some_octets, a_secret, an_address, an_address4, an_address6, a_peer}, Shape.{Shape}}
+use Rattle.script_lines.specs.{Form.{Form, a_flag, a_moment, a_number, some_octets, a_secret, an_address, an_address4, an_address6, a_peer}, Shape.{Shape}}
 
 -- the word of a setting that is one number
 abbrev pub number_word : NumberKey → List ℕ
@@ -25,6 +25,7 @@ key_word keys.Query4 = codes "query4"
 key_word keys.Query6 = codes "query6"
 key_word (keys.Number key) = number_word key
 key_word keys.Secret = codes "secret"
+key_word keys.LinuxGateways = codes "linux_gateways"
 
 -- the first words of a line
 abbrev pub words_of : Kind → List (List ℕ)
@@ -43,6 +44,7 @@ form_of_key keys.Query4 = an_address4
 form_of_key keys.Query6 = an_address6
 form_of_key (keys.Number key) = a_number (number_row key).least (number_row key).most
 form_of_key keys.Secret = a_secret
+form_of_key keys.LinuxGateways = a_flag
 
 -- a limit of the event: any that isn't 0, whatever limits are set
 abbrev pub a_limit : Form

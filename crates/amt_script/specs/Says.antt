@@ -3,7 +3,7 @@ use Rattle.std.specs.Prelude.{◌≡◌, ℕ, List}
 use Rattle.amt_values.specs.{declared.address.Ip.TheVariants.{V4, V6}, Text.{IsIpText, IsPeerText}}
 use Rattle.relay_machine.specs.{declared.event.Event.{Event}, Settings.{number_row}}
 use Rattle.relay_machine.specs.declared.event.Event.TheVariants as events
-use Rattle.script_lines.specs.{Form.{IsMomentText, IsNumberText, IsHexText, IsSecretText}, Lines.{fields, IsPlain}, Shape.{HasField, HasTwoFields, HasThreeFields}}
+use Rattle.script_lines.specs.{Form.{IsFlagText, IsMomentText, IsNumberText, IsHexText, IsSecretText}, Lines.{fields, IsPlain}, Shape.{HasField, HasTwoFields, HasThreeFields}}
 use Rattle.amt_script.specs.declared.kind.Key.TheVariants as keys
 use Rattle.amt_script.specs.declared.kind.Kind.TheVariants as kinds
 use Rattle.amt_script.specs.{declared.{script.RelayItem.{RelayItem}, setting.Setting.{Setting}}, Row.{words_of}}
@@ -18,6 +18,7 @@ SaysSetting (settings.Query6 number) = HasField (words_of (kinds.Set keys.Query6
 SaysSetting (settings.Number key number) =
     HasField (words_of (kinds.Set (keys.Number key))) (IsNumberText (number_row key).least (number_row key).most number)
 SaysSetting (settings.Secret secret) = HasField (words_of (kinds.Set keys.Secret)) (IsSecretText secret)
+SaysSetting (settings.LinuxGateways flag) = HasField (words_of (kinds.Set keys.LinuxGateways)) (IsFlagText flag)
 
 -- the decimal digits of a limit
 abbrev pub IsLimitText : ℕ → List ℕ → Type 0

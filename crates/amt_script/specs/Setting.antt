@@ -1,6 +1,6 @@
 -- Settings, and what is set under a key.
 use Rattle.std.specs.{Prelude.{Bool, List, Option, find}, Str.{bytes_eq}}
-use Rattle.amt_script.specs.{declared.{kind.Key.{Key}, setting.Setting.{Setting, TheVariants.{Relay, Query4, Query6, Number, Secret}}}, Row.{key_word}}
+use Rattle.amt_script.specs.{declared.{kind.Key.{Key}, setting.Setting.{Setting, TheVariants.{Relay, Query4, Query6, Number, Secret, LinuxGateways}}}, Row.{key_word}}
 use Rattle.amt_script.specs.declared.kind.Key.TheVariants as keys
 
 -- what a setting sets
@@ -10,6 +10,7 @@ key_of (Query4 number) = keys.Query4
 key_of (Query6 number) = keys.Query6
 key_of (Number key number) = keys.Number key
 key_of (Secret secret) = keys.Secret
+key_of (LinuxGateways flag) = keys.LinuxGateways
 
 -- two keys are one where their words are
 abbrev pub is_same_key : Key → Key → Bool

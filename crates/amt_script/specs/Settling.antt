@@ -25,6 +25,7 @@ with_setting values (settings.Query4 number) = record values { query4 = number }
 with_setting values (settings.Query6 number) = record values { query6 = number }
 with_setting values (settings.Number key number) = with_number values key number
 with_setting values (settings.Secret secret) = values
+with_setting values (settings.LinuxGateways flag) = record values { linux_gateways = flag }
 
 -- and by one after another
 abbrev pub with_settings : Settings → List Setting → Settings

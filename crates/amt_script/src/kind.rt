@@ -17,6 +17,7 @@ pub enum Key {
     /// One of the relay's numbers.
     Number(NumberKey),
     Secret,
+    LinuxGateways,
 }
 
 impl Key {
@@ -33,6 +34,7 @@ impl Key {
             Key::Query6 => "query6",
             Key::Number(key) => number_word(key),
             Key::Secret => "secret",
+            Key::LinuxGateways => "linux_gateways",
         }
     }
 }
@@ -106,6 +108,9 @@ fn key_of_word(word: &[u8]) -> Option<Key>
     }
     if is_word(word, "secret") {
         return Some(Key::Secret);
+    }
+    if is_word(word, "linux_gateways") {
+        return Some(Key::LinuxGateways);
     }
     match number_key_of_word(word) {
         Some(key) => Some(Key::Number(key)),

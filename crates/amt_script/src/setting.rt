@@ -21,6 +21,8 @@ pub enum Setting {
     Number(NumberKey, u32),
     /// The first private secret.
     Secret(Secret),
+    /// Whether the relay serves Linux's own gateways too.
+    LinuxGateways(bool),
 }
 
 fn key_of(setting: &Setting) -> Key
@@ -32,6 +34,7 @@ fn key_of(setting: &Setting) -> Key
         Setting::Query6(_) => Key::Query6,
         Setting::Number(key, _) => Key::Number(*key),
         Setting::Secret(_) => Key::Secret,
+        Setting::LinuxGateways(_) => Key::LinuxGateways,
     }
 }
 

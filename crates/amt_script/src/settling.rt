@@ -44,6 +44,7 @@ fn set(settings: &mut Settings, setting: &Setting)
         Setting::Relay(_) | Setting::Secret(_) => {}
         Setting::Query4(address) => settings.query4 = *address,
         Setting::Query6(address) => settings.query6 = *address,
+        Setting::LinuxGateways(flag) => settings.linux_gateways = *flag,
         Setting::Number(key, number) => {
             settings.set_number(*key, *number);
         }

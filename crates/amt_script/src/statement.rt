@@ -14,7 +14,7 @@ use amt_values::{parse_ip, parse_peer};
 use relay_machine::{Event, NumberKey};
 use script_lines::{
     LineError, OctetsError, Reason, next_field, only_field, read_address4, read_address6,
-    read_moment, read_number, read_octets, read_secret, two_fields,
+    read_flag, read_moment, read_number, read_octets, read_secret, two_fields,
 };
 use std::alloc::Global;
 
@@ -52,6 +52,10 @@ fn setting_of_text(key: Key, text: &[u8]) -> Result<Setting, Reason>
         Key::Secret => match read_secret(text) {
             Some(secret) => Ok(Setting::Secret(secret)),
             None => Err(Reason::Hex),
+        },
+        Key::LinuxGateways => match read_flag(text) {
+            Some(flag) => Ok(Setting::LinuxGateways(flag)),
+            None => Err(Reason::Range),
         },
     }
 }

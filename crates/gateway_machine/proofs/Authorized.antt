@@ -10,6 +10,7 @@ authorized settings first events event =
     All-weaker (IsFit Good settings answer.next.relay) (IsAuthorized settings first (events ++ event ∷ [])) (λ sending fit. record {
       update = λ mac nonce inner is. subst (Carries Good) is fit.1;
       teardown = λ mac nonce gateway is. subst (Carries Good) is fit.1;
+      linux = fit.3;
     }) answer.sends (answer-sound settings first events event (run-sound settings first events)).sends
 
 -- each Update that is sent carries a report from the gateway's source

@@ -63,9 +63,11 @@ same_peer-is one other same =
 abbrev pub IsSound : (Mac48 → ℕ → Type 0) → GatewaySettings → Option ℕ → Exchange → Type 0
 IsSound Good settings asked exchange = IsSoundBy Good settings.relay asked exchange.state exchange.relay exchange.nonce exchange.query
 
--- the message goes where it should, an Update's or a Teardown's MAC and nonce are good, and an Update carries a report
+-- the message goes where it should, an Update's or a Teardown's MAC and nonce are good, an Update carries a report,
+-- and only by the settings is a message for a Linux relay
 abbrev pub IsFit : (Mac48 → ℕ → Type 0) → GatewaySettings → Option Peer → Sending → Type 0
-IsFit Good settings relay sending = IsDirected settings relay sending × Carries Good sending.message × IsReporting settings sending.message
+IsFit Good settings relay sending =
+    IsDirected settings relay sending × Carries Good sending.message × IsReporting settings sending.message × (sending.for_linux ≡ true → settings.linux_relay ≡ true)
 
 -- each message is fit, and the exchange after the answer is sound
 pub record IsSoundAnswer (Good : Mac48 → ℕ → Type 0) (settings : GatewaySettings) (asked : Option ℕ) (answer : Answer) : Type 0 where
@@ -107,7 +109,7 @@ module _ (Good : Mac48 → ℕ → Type 0) (Given : List ℕ → Type 0) (Left :
       → IsReporting settings message → AllFit relay (to_relay relay full message)
   to_relay-fit None full message is carries reports = none None
   to_relay-fit (Some peer) full message is carries reports =
-      All-cons (IsFit Good settings (Some peer)) (record { to = peer; message = message; full_report = full }) [] (is, carries, reports) (none (Some peer))
+      All-cons (IsFit Good settings (Some peer)) (record { to = peer; message = message; full_report = full; for_linux = false }) [] (is, carries, reports, λ for_linux. cc for_linux) (none (Some peer))
 
   update-fit : (query : Option LastQuery) (exchange : Exchange) (full : Bool) (records : List Record) → IsBy Good query → AllFit exchange.relay (update_by query settings exchange full records)
   update-fit None exchange full records by = none exchange.relay
@@ -139,7 +141,7 @@ module _ (Good : Mac48 → ℕ → Type 0) (Given : List ℕ → Type 0) (Left :
   discovers : (exchange next : Exchange) → exchange.moment ≡ next.moment → (Sound exchange → Sound next) → IsLawful exchange (discover settings next)
   discovers exchange next same sound =
       heeds exchange (discover settings next) same (λ no. no) refl (λ is. record {
-        sends = All-cons (IsFit Good settings next.relay) (record { to = settings.discovery; message = Discovery next.nonce; full_report = false }) [] (refl, tt, tt) (none next.relay);
+        sends = All-cons (IsFit Good settings next.relay) (record { to = settings.discovery; message = Discovery next.nonce; full_report = false; for_linux = false }) [] (refl, tt, tt, λ for_linux. cc for_linux) (none next.relay);
         next = sound is;
       })
 
@@ -147,7 +149,10 @@ module _ (Good : Mac48 → ℕ → Type 0) (Given : List ℕ → Type 0) (Left :
   ask-sound : (relay : Option Peer) (next : Exchange) → IsSoundBy Good settings.relay (Some next.nonce) InRequesting relay next.nonce next.query
       → SoundAnswer (ask settings (record next { state = InRequesting; relay = relay }))
   ask-sound None next is = let unknown = is.relay.1 in absurd cc
-  ask-sound (Some peer) next is = record { sends = to_relay-fit (Some peer) false (Request settings.v6 next.nonce) refl tt tt; next = is }
+  ask-sound (Some peer) next is = record {
+    sends = All-cons (IsFit Good settings (Some peer)) (record { to = peer; message = Request settings.v6 next.nonce; full_report = false; for_linux = settings.linux_relay }) [] (refl, tt, tt, λ for_linux. for_linux) (none (Some peer));
+    next = is;
+  }
 
   asks : (exchange next : Exchange) → exchange.moment ≡ next.moment → (Sound exchange → IsSoundBy Good settings.relay (Some next.nonce) InRequesting next.relay next.nonce next.query)
       → IsLawful exchange (ask settings (record next { state = InRequesting }))

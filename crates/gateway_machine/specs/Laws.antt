@@ -44,14 +44,16 @@ pub record HasAcceptedQuery (settings : GatewaySettings) (first : ℕ) (events :
   pub among : events ≡ earlier ++ event ∷ later
   pub query : IsAcceptedQuery settings first earlier event mac nonce
 
--- an Update or a Teardown carries the MAC and the nonce of an accepted Query (RFC 7450, section 5.2.3.6)
+-- an Update or a Teardown carries the MAC and the nonce of an accepted Query (RFC 7450, section 5.2.3.6), and
+-- no message is for a Linux relay unless the settings say that the relay is one
 pub record IsAuthorized (settings : GatewaySettings) (first : ℕ) (events : List GatewayEvent) (sending : Sending) : Type 0 where
   pub update : (mac : Mac48) (nonce : ℕ) (inner : List ℕ) → sending.message ≡ Update mac nonce inner
       → HasAcceptedQuery settings first events mac nonce
   pub teardown : (mac : Mac48) (nonce : ℕ) (gateway : EndpointValue) → sending.message ≡ Teardown mac nonce gateway
       → HasAcceptedQuery settings first events mac nonce
+  pub linux : sending.for_linux ≡ true → settings.linux_relay ≡ true
 
--- the datagrams are spellings of messages, and each Update and each Teardown among these carries the MAC and
+-- the datagrams are the octets of messages, and each Update and each Teardown among these carries the MAC and
 -- the nonce of an accepted Query
 pub record AreAuthorized (settings : GatewaySettings) (first : ℕ) (events : List GatewayEvent) (sends : List PeerSend) : Type 0 where
   pub sendings : List Sending

@@ -1,8 +1,7 @@
 //! Discoveries and Requests.
 
-ghost use Rattle.std.specs.Prelude.{false, IfOk, IsOk};
-ghost use Rattle.amt_messages.specs.Messages.{IsSendable};
-ghost use Rattle.gateway_machine.specs.{Answers.{ask, begin_with, discover, due_answer, sending}, Outcomes.{IsAtRest}, Sends.{to_relay}, Taken.{IsReply}};
+ghost use Rattle.std.specs.Prelude.{IfOk, IsOk};
+ghost use Rattle.gateway_machine.specs.{Answers.{ask, begin_with, discover, due_answer}, Outcomes.{IsAtRest}, Taken.{IsReply}};
 
 use crate::exchange::{Exchange, GatewayState};
 use crate::outcome::GatewayOutcome;
@@ -16,41 +15,25 @@ use std::alloc::{AllocError, Global};
 // How many Requests are sent with one nonce.
 const MOST_REQUESTS: u8 = 5;
 
-// The reply in which this message is sent, if there is a peer to send it to.
-fn send_one(
-    alloc: Global,
-    to: Option<Peer>,
-    message: &Message,
-    outcome: GatewayOutcome,
-    next: Exchange,
-) -> Result<Reply, AllocError>
-    requires { IsSendable message.now }
-    ensures { IfOk result (IsReply (sending outcome (to_relay to false message.now) next)) }
-{
-    let mut sends = ShortSends::new(alloc);
-    sends.push(alloc, to, message)?;
-    Ok(Reply::sending(outcome, sends, next))
-}
-
 // The answer where a Discovery is sent, with the exchange after it.
 fn discover(alloc: Global, settings: &GatewaySettings, next: Exchange) -> Result<Reply, AllocError>
     ensures { IfOk result (IsReply (discover settings.now next)) }
 {
     let message = Message::Discovery { nonce: next.nonce };
+    let mut sends = ShortSends::new(alloc);
+    sends.push(alloc, Some(settings.discovery), &message)?;
     let outcome = GatewayOutcome::Discovering(next.tries);
-    send_one(alloc, Some(settings.discovery), &message, outcome, next)
+    Ok(Reply::sending(outcome, sends, next))
 }
 
 /// The answer where a Request is sent, with the exchange after it.
 pub fn ask(alloc: Global, settings: &GatewaySettings, next: Exchange) -> Result<Reply, AllocError>
     ensures { IfOk result (IsReply (ask settings.now next)) }
 {
-    let message = Message::Request {
-        v6: settings.v6,
-        nonce: next.nonce,
-    };
+    let mut sends = ShortSends::new(alloc);
+    sends.push_request(alloc, next.relay, settings, next.nonce)?;
     let outcome = GatewayOutcome::Requesting(next.tries);
-    send_one(alloc, next.relay, &message, outcome, next)
+    Ok(Reply::sending(outcome, sends, next))
 }
 
 /// The answer that begins an exchange: a Request is sent where a relay is known, else a Discovery.

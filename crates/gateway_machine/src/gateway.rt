@@ -1,4 +1,4 @@
-//! The gateway as a machine: where it starts, what is read off it, and one step. It knows no message.
+//! The gateway as a machine: its start, its state and sockets, and its step. It knows no message.
 
 ghost use Rattle.std.{specs.Prelude.{◌≡◌}, proofs.Props.{props}};
 ghost use Rattle.gateway_machine.specs.{Settings.{HasSourceOfFamily}, State.{AreOfSettings, HasHistory, IsAtMoment}};

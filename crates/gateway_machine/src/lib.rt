@@ -24,6 +24,7 @@ mod outcome;
 mod query;
 mod reply;
 mod report;
+mod request;
 mod settings;
 mod short_sends;
 mod situation;

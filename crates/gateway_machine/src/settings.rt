@@ -17,6 +17,10 @@ pub struct GatewaySettings {
     pub port: u16,
     /// The source of the datagrams that carry reports: an address of the gateway's family.
     pub source: Ip,
+    /// Whether the relay is Linux's own, whose driver counts the flags' bits from the other end: a Request for
+    /// MLD then has the second octet `80`, where RFC 7450, section 5.1.3, has `01`; one for IGMP stays. At
+    /// another relay that doesn't serve Linux's gateways, groups of IPv6 then get nothing.
+    pub linux_relay: bool,
 }
 
 impl GatewaySettings {

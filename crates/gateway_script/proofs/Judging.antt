@@ -68,16 +68,17 @@ some_word [] (Some form) (text ∷ texts) each others (inr later) = some_word []
 some_word (form ∷ forms) repeated (text ∷ texts) each others (inl here) = each.0 text here
 some_word (form ∷ forms) repeated (text ∷ texts) each others (inr later) = some_word forms repeated texts each.1 others later
 
-no_family : (keys.Family ≡ keys.Discovery) ⊎ ((keys.Family ≡ keys.Source) ⊎ ((keys.Family ≡ keys.Relay) ⊎ ((keys.Family ≡ keys.Port) ⊎ (keys.Family ≡ keys.Nonce)))) → ⊥
+no_family : (keys.Family ≡ keys.Discovery) ⊎ ((keys.Family ≡ keys.Source) ⊎ ((keys.Family ≡ keys.Relay) ⊎ ((keys.Family ≡ keys.Port) ⊎ ((keys.Family ≡ keys.Nonce) ⊎ (keys.Family ≡ keys.LinuxRelay))))) → ⊥
 no_family (inl same) = cc same
 no_family (inr (inl same)) = cc same
 no_family (inr (inr (inl same))) = cc same
 no_family (inr (inr (inr (inl same)))) = cc same
-no_family (inr (inr (inr (inr same)))) = cc same
+no_family (inr (inr (inr (inr (inl same))))) = cc same
+no_family (inr (inr (inr (inr (inr same))))) = cc same
 
 -- no field of another setting than the family is an unknown word
 pub setting_word : (key : Key) (values : List (List ℕ))
-    → (key ≡ keys.Discovery) ⊎ ((key ≡ keys.Source) ⊎ ((key ≡ keys.Relay) ⊎ ((key ≡ keys.Port) ⊎ (key ≡ keys.Nonce))))
+    → (key ≡ keys.Discovery) ⊎ ((key ≡ keys.Source) ⊎ ((key ≡ keys.Relay) ⊎ ((key ≡ keys.Port) ⊎ ((key ≡ keys.Nonce) ⊎ (key ≡ keys.LinuxRelay)))))
     → SomeFails (form_of_key key ∷ []) None values reasons.Word → ⊥
 setting_word keys.Family values other fails = no_family other
 setting_word key values other fails = some_word (form_of_key key ∷ []) None values (λ text h. h, tt) tt fails

@@ -5,7 +5,7 @@ use Rattle.group_records.specs.declared.family.Family.{Family}
 use Rattle.source_filter.specs.Filter.{FilterValue}
 use Rattle.gateway_machine.specs.declared.event.GatewayEvent.{GatewayEvent}
 use Rattle.gateway_machine.specs.declared.event.GatewayEvent.TheVariants as events
-use Rattle.script_lines.{specs.{declared.reason.Reason.{Reason}, Form.{Form, Fails, IsNumberText, a_family, a_group, a_mode, a_moment, a_name, a_nonce, a_number, a_peer, an_address, an_address_of, some_octets}, Shape.{FailsIn, HasField, Shape, SomeFails}}, proofs.Forms.{moment_fits, number_fits, octets_fit, address_fits as any_address_fits, peer_fits, none_fits, one_fits, two_fit}}
+use Rattle.script_lines.{specs.{declared.reason.Reason.{Reason}, Form.{Form, Fails, IsNumberText, a_family, a_flag, a_group, a_mode, a_moment, a_name, a_nonce, a_number, a_peer, an_address, an_address_of, some_octets}, Shape.{FailsIn, HasField, Shape, SomeFails}}, proofs.Forms.{flag_fits, moment_fits, number_fits, octets_fit, address_fits as any_address_fits, peer_fits, none_fits, one_fits, two_fit}}
 use Rattle.script_lines.specs.declared.reason.Reason.TheVariants as reasons
 use Rattle.gateway_script.{specs.{declared.{kind.LineKind.{LineKind}, setting.Setting.{Setting}}, Fault.{FailsAs}, Reading.{IsEventKind}, Row.{fixed, shape_of, words_of}, Says.{SaysEvent, SaysFilter, SaysMembership, SaysNamed, SaysSetting}, Setting.{key_of}}, proofs.{Fields.{addresses_fit, family_fits, group_fits, mode_fits, name_fits, nonce_fits}, Rows.{same_kind}}}
 use Rattle.gateway_script.specs.declared.kind.Key.TheVariants as keys
@@ -35,6 +35,7 @@ setting_is_fit family (settings.Relay peer) line says = field_is_fit family (kin
 setting_is_fit family (settings.Port port) line says =
     field_is_fit family (kinds.Set keys.Port) (a_number 0 65535) (IsNumberText 0 65535 port) line refl (λ text names. number_fits 0 65535 port text (omega arith) names) says
 setting_is_fit family (settings.Nonce nonce) line says = field_is_fit family (kinds.Set keys.Nonce) a_nonce _ line refl (nonce_fits nonce) says
+setting_is_fit family (settings.LinuxRelay flag) line says = field_is_fit family (kinds.Set keys.LinuxRelay) a_flag _ line refl (flag_fits flag) says
 
 -- a field and those after it
 field_or_more : (form : Form) (forms : List Form) (repeated : Option Form) (text : List ℕ) (texts : List (List ℕ)) (reason : Reason) → (Fails form text reason → ⊥)

@@ -9,15 +9,15 @@ same_value : {X : Type 0} (given : Option X) (one other : X) → given ≡ Some 
 same_value given one other h k = let same = sym h ∙ k in cc same
 
 same_settings : (one other : GatewaySettings) → one.v6 ≡ other.v6 → one.discovery ≡ other.discovery → one.relay ≡ other.relay → one.port ≡ other.port
-    → one.source ≡ other.source → one ≡ other
-same_settings one other v6 discovery relay port source =
-    λ i. record { v6 = v6 i; discovery = discovery i; relay = relay i; port = port i; source = source i }
+    → one.source ≡ other.source → one.linux_relay ≡ other.linux_relay → one ≡ other
+same_settings one other v6 discovery relay port source linux =
+    λ i. record { v6 = v6 i; discovery = discovery i; relay = relay i; port = port i; source = source i; linux_relay = linux i }
 
 pub settled_values : (given : List Setting) (values values' : GatewaySettings) (nonce nonce' : ℕ) → Settles given values nonce → Settles given values' nonce' → values ≡ values'
 settled_values given values values' nonce nonce' h k =
     let family = same_value _ h.family k.family h.family_is k.family_is in
     same_settings values values' (h.v6 ∙ (ap is_v6 family ∙ sym k.v6)) (same_value _ values.discovery values'.discovery h.discovery k.discovery) (h.relay ∙ sym k.relay)
-    (h.port ∙ sym k.port) (same_value _ values.source values'.source h.source k.source)
+    (h.port ∙ sym k.port) (same_value _ values.source values'.source h.source k.source) (h.linux_relay ∙ sym k.linux_relay)
 
 nothing_missing : (given : List Setting) (values : GatewaySettings) (nonce : ℕ) → Settles given values nonce → LacksSetting given → ⊥
 nothing_missing given values nonce settled (inl family) = cc (sym settled.family_is ∙ family)

@@ -1,11 +1,11 @@
 -- A line says one thing.
-use Rattle.std.proofs.Common.{◌≡◌, ℕ, List, ◌∷◌, ◌++◌, Option, None, refl, sym, subst, ap, ◌∙◌, arith}
+use Rattle.std.proofs.Common.{◌≡◌, ℕ, Bool, List, ◌∷◌, ◌++◌, Option, None, refl, sym, subst, ap, ◌∙◌, arith}
 use Rattle.amt_values.{specs.{declared.{address.Ip.{Ip}, peer.Peer.{Peer}}, Text.{IsIpText, IsPeerText}}, proofs.Unique.{IsIpText-unique, IsPeerText-unique}}
 use Rattle.group_records.specs.declared.family.Family.{Family}
 use Rattle.source_filter.specs.Filter.{FilterValue, ascending_sources}
 use Rattle.gateway_machine.specs.declared.event.GatewayEvent.{GatewayEvent}
 use Rattle.gateway_machine.specs.declared.event.GatewayEvent.TheVariants as events
-use Rattle.script_lines.{specs.Form.{IsFamilyText, IsGroupText, IsHexText, IsModeText, IsMomentText, IsNameText, IsNonceText, IsNumberText}, proofs.Forms.{IsHexText-unique, IsMomentText-unique, IsNumberText-unique, one_field}}
+use Rattle.script_lines.{specs.Form.{IsFamilyText, IsFlagText, IsGroupText, IsHexText, IsModeText, IsMomentText, IsNameText, IsNonceText, IsNumberText}, proofs.Forms.{IsFlagText-unique, IsHexText-unique, IsMomentText-unique, IsNumberText-unique, one_field}}
 use Rattle.gateway_script.specs.{declared.{kind.LineKind.{LineKind}, setting.Setting.{Setting}}, Row.{words_of}, Says.{AreAddressTexts, SaysEvent, SaysFilter, SaysSetting}, Setting.{key_of}}
 use Rattle.gateway_script.proofs.{Fields.{AreAddressTexts-unique, IsAddressText-unique, IsFamilyText-unique, IsModeText-unique, IsNameText-unique, IsNonceText-unique}, Rows.{same_kind, same_values}, Says.{kind_of_event, setting_is_fit, event_is_fit}}
 use Rattle.gateway_script.specs.declared.kind.LineKind.TheVariants as kinds
@@ -23,6 +23,8 @@ SaysSetting-same (settings.Port x) (settings.Port y) line same h k =
     (one_field _ (IsNumberText 0 65535) (λ v w text p q. IsNumberText-unique 0 65535 v w text (omega arith) p q) x y line h k)
 SaysSetting-same (settings.Nonce x) (settings.Nonce y) line same h k =
     ap (λ (v : ℕ). settings.Nonce v) (one_field _ IsNonceText IsNonceText-unique x y line h k)
+SaysSetting-same (settings.LinuxRelay x) (settings.LinuxRelay y) line same h k =
+    ap (λ (v : Bool). settings.LinuxRelay v) (one_field _ IsFlagText IsFlagText-unique x y line h k)
 SaysSetting-same one other line same h k = cc same
 
 set_key : (one other : Setting) (line : List (List ℕ)) → SaysSetting one line → SaysSetting other line → key_of one ≡ key_of other

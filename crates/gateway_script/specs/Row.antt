@@ -2,7 +2,7 @@
 -- of its fields.
 use Rattle.std.specs.Prelude.{◌≢◌, ℕ, List, [], ◌∷◌, ◌++◌, codes, Option, None, Some}
 use Rattle.group_records.specs.declared.family.Family.{Family}
-use Rattle.script_lines.specs.{Form.{Form, a_family, a_group, a_mode, a_moment, a_name, a_nonce, a_number, a_peer, an_address, an_address_of, some_octets}, Shape.{Shape}}
+use Rattle.script_lines.specs.{Form.{Form, a_family, a_flag, a_group, a_mode, a_moment, a_name, a_nonce, a_number, a_peer, an_address, an_address_of, some_octets}, Shape.{Shape}}
 use Rattle.gateway_script.specs.declared.kind.{Key.{Key}, LineKind.{LineKind}}
 use Rattle.gateway_script.specs.declared.kind.Key.TheVariants as keys
 use Rattle.gateway_script.specs.declared.kind.LineKind.TheVariants as kinds
@@ -15,6 +15,7 @@ key_word keys.Source = codes "source"
 key_word keys.Relay = codes "relay"
 key_word keys.Port = codes "port"
 key_word keys.Nonce = codes "nonce"
+key_word keys.LinuxRelay = codes "linux_relay"
 
 -- the first words of a line
 abbrev pub words_of : LineKind → List (List ℕ)
@@ -35,6 +36,7 @@ form_of_key keys.Source = an_address
 form_of_key keys.Relay = a_peer
 form_of_key keys.Port = a_number 0 65535
 form_of_key keys.Nonce = a_nonce
+form_of_key keys.LinuxRelay = a_flag
 
 -- a line whose last field isn't repeated
 abbrev pub fixed : List Form → Shape

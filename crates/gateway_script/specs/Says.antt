@@ -5,7 +5,7 @@ use Rattle.source_filter.specs.Filter.{FilterValue, ascending_sources}
 use Rattle.group_records.specs.declared.family.Family.{Family}
 use Rattle.gateway_machine.specs.declared.event.GatewayEvent.{GatewayEvent}
 use Rattle.gateway_machine.specs.declared.event.GatewayEvent.TheVariants as events
-use Rattle.script_lines.specs.{Form.{IsAddressText, IsFamilyText, IsGroupText, IsHexText, IsModeText, IsMomentText, IsNameText, IsNonceText, IsNumberText}, Shape.{HasField, HasTwoFields}}
+use Rattle.script_lines.specs.{Form.{IsAddressText, IsFamilyText, IsFlagText, IsGroupText, IsHexText, IsModeText, IsMomentText, IsNameText, IsNonceText, IsNumberText}, Shape.{HasField, HasTwoFields}}
 use Rattle.gateway_script.specs.declared.kind.Key.TheVariants as keys
 use Rattle.gateway_script.specs.declared.kind.LineKind.TheVariants as kinds
 use Rattle.gateway_script.specs.{declared.setting.Setting.{Setting}, Row.{words_of}}
@@ -19,6 +19,7 @@ SaysSetting (settings.Source ip) = HasField (words_of (kinds.Set keys.Source)) (
 SaysSetting (settings.Relay peer) = HasField (words_of (kinds.Set keys.Relay)) (IsPeerText peer)
 SaysSetting (settings.Port port) = HasField (words_of (kinds.Set keys.Port)) (IsNumberText 0 65535 port)
 SaysSetting (settings.Nonce nonce) = HasField (words_of (kinds.Set keys.Nonce)) (IsNonceText nonce)
+SaysSetting (settings.LinuxRelay flag) = HasField (words_of (kinds.Set keys.LinuxRelay)) (IsFlagText flag)
 
 -- the texts are those of these addresses
 abbrev pub AreAddressTexts : Option Family → List Ip → List (List ℕ) → Type 0

@@ -1,6 +1,6 @@
 -- Settings, and what is set under a key.
 use Rattle.std.specs.{Prelude.{Bool, List, Option, find}, Str.{bytes_eq}}
-use Rattle.gateway_script.specs.{declared.{kind.Key.{Key}, setting.Setting.{Setting, TheVariants.{Family, Discovery, Source, Relay, Port, Nonce}}}, Row.{key_word}}
+use Rattle.gateway_script.specs.{declared.{kind.Key.{Key}, setting.Setting.{Setting, TheVariants.{Family, Discovery, Source, Relay, Port, Nonce, LinuxRelay}}}, Row.{key_word}}
 use Rattle.gateway_script.specs.declared.kind.Key.TheVariants as keys
 
 -- what a setting sets
@@ -11,6 +11,7 @@ key_of (Source ip) = keys.Source
 key_of (Relay peer) = keys.Relay
 key_of (Port port) = keys.Port
 key_of (Nonce nonce) = keys.Nonce
+key_of (LinuxRelay flag) = keys.LinuxRelay
 
 -- two keys are one where their words are
 abbrev pub is_same_key : Key → Key → Bool

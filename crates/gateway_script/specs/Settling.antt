@@ -4,7 +4,7 @@ use Rattle.amt_values.specs.declared.{address.Ip.{Ip}, peer.Peer.{Peer}}
 use Rattle.group_records.specs.declared.family.Family.{Family as AddressFamily, TheVariants.{V4, V6}}
 use Rattle.gateway_machine.specs.declared.settings.GatewaySettings.{GatewaySettings}
 use Rattle.gateway_script.specs.declared.kind.Key.TheVariants as keys
-use Rattle.gateway_script.specs.{declared.setting.Setting.{Setting, TheVariants.{Family, Discovery, Source, Relay, Port, Nonce}}, Setting.{set_at}}
+use Rattle.gateway_script.specs.{declared.setting.Setting.{Setting, TheVariants.{Family, Discovery, Source, Relay, Port, Nonce, LinuxRelay}}, Setting.{set_at}}
 
 -- the family that was given
 abbrev pub family_in : Option Setting → Option AddressFamily
@@ -36,6 +36,11 @@ abbrev pub nonce_in : Option Setting → ℕ
 nonce_in (Some (Nonce nonce)) = nonce
 nonce_in other = 1
 
+-- whether the relay is Linux's own, which it isn't by default
+abbrev pub linux_relay_in : Option Setting → Bool
+linux_relay_in (Some (LinuxRelay flag)) = flag
+linux_relay_in other = false
+
 -- the family of a gateway whose settings these are
 abbrev pub family_given : List Setting → Option AddressFamily
 family_given given = family_in (set_at given keys.Family)
@@ -54,4 +59,5 @@ pub record Settles (given : List Setting) (values : GatewaySettings) (nonce : �
   pub source : source_in (set_at given keys.Source) ≡ Some values.source
   pub relay : values.relay ≡ relay_in (set_at given keys.Relay)
   pub port : values.port ≡ port_in (set_at given keys.Port)
+  pub linux_relay : values.linux_relay ≡ linux_relay_in (set_at given keys.LinuxRelay)
   pub first_nonce : nonce ≡ nonce_in (set_at given keys.Nonce)

@@ -15,6 +15,7 @@ pub enum Key {
     Relay,
     Port,
     Nonce,
+    LinuxRelay,
 }
 
 impl Key {
@@ -32,6 +33,7 @@ impl Key {
             Key::Relay => "relay",
             Key::Port => "port",
             Key::Nonce => "nonce",
+            Key::LinuxRelay => "linux_relay",
         }
     }
 }
@@ -86,6 +88,9 @@ fn key_of_word(word: &[u8]) -> Option<Key>
     }
     if is_word(word, "nonce") {
         return Some(Key::Nonce);
+    }
+    if is_word(word, "linux_relay") {
+        return Some(Key::LinuxRelay);
     }
     None
 }

@@ -22,6 +22,8 @@ pub enum Setting {
     Port(u16),
     /// The first nonce.
     Nonce(u32),
+    /// Whether the relay is Linux's own.
+    LinuxRelay(bool),
 }
 
 fn key_of(setting: &Setting) -> Key
@@ -34,6 +36,7 @@ fn key_of(setting: &Setting) -> Key
         Setting::Relay(_) => Key::Relay,
         Setting::Port(_) => Key::Port,
         Setting::Nonce(_) => Key::Nonce,
+        Setting::LinuxRelay(_) => Key::LinuxRelay,
     }
 }
 

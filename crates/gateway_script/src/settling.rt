@@ -1,7 +1,7 @@
 //! The settings of a gateway from those given, with the defaults. It knows no line.
 
 ghost use Rattle.std.specs.Prelude.{◌≡◌, IfSome, IfNone};
-ghost use Rattle.gateway_script.specs.{Fault.{LacksSetting}, Setting.{set_at}, Settling.{Settles, discovery_in, family_given, is_v6, nonce_in, port_in, relay_in, source_in}};
+ghost use Rattle.gateway_script.specs.{Fault.{LacksSetting}, Setting.{set_at}, Settling.{Settles, discovery_in, family_given, is_v6, linux_relay_in, nonce_in, port_in, relay_in, source_in}};
 
 use crate::kind::Key;
 use crate::setting::{Setting, setting_at};
@@ -71,6 +71,15 @@ fn nonce_of(given: &[Setting]) -> u32
     }
 }
 
+fn linux_relay_of(given: &[Setting]) -> bool
+    ensures { result ≡ linux_relay_in (set_at given.now Key.LinuxRelay) }
+{
+    match setting_at(given, Key::LinuxRelay) {
+        Some(Setting::LinuxRelay(flag)) => flag,
+        _ => false,
+    }
+}
+
 fn is_v6(family: Family) -> bool
     ensures { result ≡ is_v6 family }
 {
@@ -92,6 +101,7 @@ pub fn settle(given: &[Setting]) -> Option<Settled>
             relay: relay_of(given),
             port: port_of(given),
             source,
+            linux_relay: linux_relay_of(given),
         },
         nonce: nonce_of(given),
     })

@@ -12,8 +12,8 @@ use crate::setting::Setting;
 use amt_values::{parse_ip, parse_peer};
 use gateway_machine::GatewayEvent;
 use script_lines::{
-    LineError, OctetsError, Reason, next_field, only_field, read_family, read_moment, read_nonce,
-    read_number, read_octets, two_fields,
+    LineError, OctetsError, Reason, next_field, only_field, read_family, read_flag, read_moment,
+    read_nonce, read_number, read_octets, two_fields,
 };
 use std::alloc::Global;
 
@@ -34,7 +34,8 @@ pub fn lacks_family(key: Key, values: &[u8]) -> bool
 {
     match key {
         Key::Family => begins_with_no_family(values),
-        Key::Discovery | Key::Source | Key::Relay | Key::Port | Key::Nonce => false,
+        Key::Discovery | Key::Source | Key::Relay | Key::Port | Key::Nonce | Key::LinuxRelay =>
+            false,
     }
 }
 
@@ -69,6 +70,10 @@ pub fn setting_of_text(key: Key, text: &[u8]) -> Result<Setting, Reason>
         Key::Nonce => match read_nonce(text) {
             Some(nonce) => Ok(Setting::Nonce(nonce)),
             None => Err(Reason::Hex),
+        },
+        Key::LinuxRelay => match read_flag(text) {
+            Some(flag) => Ok(Setting::LinuxRelay(flag)),
+            None => Err(Reason::Range),
         },
     }
 }

@@ -7,7 +7,7 @@ use Rattle.source_filter.specs.{declared.query.QueryFields.{QueryFields}, declar
 use Rattle.socket_merge.specs.{FullReport.{is_quiet}, History.{AcceptedCall, SocketCall, Open, Change, Close, LeaveAll, with_call}, Changes.{change_records}}
 use Rattle.gateway_machine.specs.Answers.{Answer, accepted_answer, advertisement_answer, answer_at, ask, begin_with, call_answer, call_by, cause_heard, changed_answer, datagram_answer, due_answer, event_answer, fields_heard, ignored, is_idle, is_opening, asked_relay, joined_relay, packet_by, query_by, query_kept, quiet, refusal_at}
 use Rattle.gateway_machine.specs.{Exchange.{active, idle, moved, relay_named, requesting, retried}, Reports.{full_records, full_report, same_endpoint, teardown, teardown_by, teardown_if, update, update_by, update_of}, Runs.{answer_after, run_of}}
-use Rattle.gateway_machine.specs.{Sends.{Sending, to_relay}, Settings.{family_of}, Timing.{farewell_ms}, declared.{event.GatewayEvent.{GatewayEvent}, exchange.{Exchange.{Exchange}, GatewayState.{GatewayState, TheVariants.{Idle, Discovering, Requesting, Active}}}}}
+use Rattle.gateway_machine.specs.{Sends.{Sending, request_to, to_relay}, Settings.{family_of}, Timing.{farewell_ms}, declared.{event.GatewayEvent.{GatewayEvent}, exchange.{Exchange.{Exchange}, GatewayState.{GatewayState, TheVariants.{Idle, Discovering, Requesting, Active}}}}}
 use Rattle.gateway_machine.specs.declared.{exchange.LastQuery.{LastQuery}, outcome.{Ignored.{Ignored, TheVariants.{Nonce as OtherNonce}}, GatewayOutcome.TheVariants.{Quiet, Idle as GoesIdle}, SocketRefusal.{SocketRefusal}}, settings.GatewaySettings.{GatewaySettings}}
 use Rattle.gateway_machine.specs.declared.event.GatewayEvent.TheVariants as events
 
@@ -19,8 +19,12 @@ to_relay-one : (relay : Option Peer) (full_report : Bool) (message : Message) �
 to_relay-one None full_report message = omega arith
 to_relay-one (Some relay) full_report message = omega arith
 
+request_to-one : (relay : Option Peer) (settings : GatewaySettings) (nonce : ℕ) → length (request_to relay settings nonce) ≤ 1
+request_to-one None settings nonce = omega arith
+request_to-one (Some relay) settings nonce = omega arith
+
 ask-few : (settings : GatewaySettings) (next : Exchange) → SendsFew (ask settings next)
-ask-few settings next = let one = to_relay-one next.relay false (Request settings.v6 next.nonce) in omega (arith, one)
+ask-few settings next = let one = request_to-one next.relay settings next.nonce in omega (arith, one)
 
 either-few : (test : Bool) (one other : Answer) → SendsFew one → SendsFew other → SendsFew (if test then one else other)
 either-few true one other few others = few

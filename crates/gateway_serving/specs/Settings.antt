@@ -10,6 +10,7 @@ settings_of config = record {
   relay = config.relay;
   port = config.port;
   source = config.source;
+  linux_relay = config.linux_relay;
 }
 
 -- the socket call that a join makes

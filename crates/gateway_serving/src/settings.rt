@@ -15,5 +15,6 @@ pub fn settings_of(config: &GatewayConfig) -> GatewaySettings
         relay: config.relay,
         port: config.port,
         source: config.source,
+        linux_relay: config.linux_relay,
     }
 }

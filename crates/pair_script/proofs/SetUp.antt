@@ -43,12 +43,12 @@ SetUpTo settings secret hosts = record { settings = settings; secret = secret; h
 pub pair_more : (pair : Pair) (settings : Settings) (secret : Secret) (gateways : List PairGateway) (i : ℕ) (d gateway : PairGateway) (name : List ℕ)
     → i < length gateways → gateway ≡ get_or gateways i d → name ≡ gateway.name
     → PairAt pair (SetUpTo settings secret (map (host_of settings) (take i gateways)
-    ++ record { name = name; peer = gateway.peer; settings = settings_of_host settings gateway.v6 gateway.source } ∷ [])) []
+    ++ record { name = name; peer = gateway.peer; settings = settings_of_host settings gateway.v6 false gateway.source } ∷ [])) []
     → PairAt pair (SetUpTo settings secret (map (host_of settings) (take (i + 1) gateways))) []
 pair_more pair settings secret gateways i d gateway name inside is name_is at =
     let before = map (host_of settings) (take i gateways) in
     let named = subst (λ (n : List ℕ). PairAt pair (SetUpTo settings secret (before
-    ++ record { name = n; peer = gateway.peer; settings = settings_of_host settings gateway.v6 gateway.source } ∷ [])) []) name_is at in
+    ++ record { name = n; peer = gateway.peer; settings = settings_of_host settings gateway.v6 false gateway.source } ∷ [])) []) name_is at in
     let of_list = subst (λ (g : PairGateway). PairAt pair (SetUpTo settings secret (before ++ host_of settings g ∷ [])) []) is named in
     let hosts = sym (ap (map (host_of settings)) (take_more gateways i d inside) ∙ map-append (host_of settings) (take i gateways) (get_or gateways i d ∷ [])) in
     subst (λ (hs : List Host). PairAt pair (SetUpTo settings secret hs) []) hosts of_list

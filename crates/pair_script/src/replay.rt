@@ -153,7 +153,7 @@ fn set_up(alloc: Global, script: &PairScript) -> Result<Pair, AllocError>
     let mut pair = Pair::new(alloc, script.settings, script.secret)?;
     for gateway in script.gateways.as_slice() {
         let name = gateway.name.as_slice();
-        match pair.add(alloc, name, gateway.peer, gateway.v6, gateway.source) {
+        match pair.add(alloc, name, gateway.peer, gateway.v6, false, gateway.source) {
             Ok(()) => {}
             Err(PairFault::Memory) => return Err(AllocError),
             // No two gateways of a script have one name or one peer.

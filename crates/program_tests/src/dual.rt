@@ -26,6 +26,7 @@ const IPV4: GatewaySettings = GatewaySettings {
     relay: None,
     port: 2268,
     source: Ip::V4(0x0a00_0002),
+    linux_relay: false,
 };
 
 const IPV6: GatewaySettings = GatewaySettings {
@@ -34,6 +35,7 @@ const IPV6: GatewaySettings = GatewaySettings {
     relay: None,
     port: 2268,
     source: Ip::V6(0xfe80_0000_0000_0000_0000_0000_0000_0002),
+    linux_relay: false,
 };
 
 // The nonce that a dual gateway is made with, and the first Discovery of each machine.

@@ -37,6 +37,7 @@ fn a_gateway_is_made_stepped_and_its_sends_are_read(rt: HostRuntime) -> Result<(
         relay: None,
         port: 2268,
         source: Ip::V4(0xc633_6407),
+        linux_relay: false,
     };
     assert!(rt; settings.lawful());
     let mut gateway = Gateway::new(rt.alloc(), settings, 0x0102_0304)?;

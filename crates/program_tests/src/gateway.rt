@@ -22,6 +22,7 @@ const SETTINGS: GatewaySettings = GatewaySettings {
     relay: None,
     port: 2268,
     source: Ip::V4(0x0a00_0002),
+    linux_relay: false,
 };
 
 // An Advertisement of 192.0.2.1 with the nonce 00000001, and a Query with the next one that is answered

@@ -28,7 +28,7 @@ fn is_added(
         ip: Ip::V4(0xc633_6407),
         port,
     };
-    let added = pair.add(alloc, name, peer, false, Ip::V4(0x0a00_0002));
+    let added = pair.add(alloc, name, peer, false, false, Ip::V4(0x0a00_0002));
     assert_eq!(rt; added, answer, "{name:?} {port}");
 }
 

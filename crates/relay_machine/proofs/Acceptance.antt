@@ -11,25 +11,25 @@ use Rattle.relay_machine.specs.{Answers.{answer_of, outcome_of}, EventAnswer.{Ev
 use Rattle.relay_machine.{specs.{Settings.{table_settings_of}, Updates.{forwardable_records, report_in}}, proofs.{Judged.{datagram-judged, packet-judged}, Lawful.{lawful-report_in, report_in-lawful}}}
 
 -- the answer to an Update with a good MAC, a lawful report and within the limits
-updated_answer : (settings : Settings) (secrets : SecretsValue) (moment : ℕ) (log : List Change) (from : Option EndpointValue) (reading : Result Message Refused) (source : EndpointValue) (mac : Mac48) (nonce : ℕ)
+updated_answer : (settings : Settings) (secrets : SecretsValue) (moment : ℕ) (log : List Change) (octets : List ℕ) (from : Option EndpointValue) (reading : Result Message Refused) (source : EndpointValue) (mac : Mac48) (nonce : ℕ)
     (inner : List ℕ) (records : List Record) → from ≡ Some source → reading ≡ Ok (Update mac nonce inner) → is_good secrets source nonce mac ≡ true → report_in inner ≡ Ok records
     → limit_passed (table_settings_of settings) log source (forwardable_records records) moment ≡ None
-    → datagram_answer settings secrets moment log from reading ≡ entered Updated (Reported source (forwardable_records records) moment)
-updated_answer settings secrets moment log from reading source mac nonce inner records comes_from read good lawful none =
+    → datagram_answer settings secrets moment log octets from reading ≡ entered Updated (Reported source (forwardable_records records) moment)
+updated_answer settings secrets moment log octets from reading source mac nonce inner records comes_from read good lawful none =
     let passed : List Record → Option LimitFault = λ all. limit_passed (table_settings_of settings) log source all moment in
-    ap (λ (known : Option EndpointValue). datagram_answer settings secrets moment log known reading) comes_from
-    ∙ (ap (datagram_answer settings secrets moment log (Some source)) read
+    ap (λ (known : Option EndpointValue). datagram_answer settings secrets moment log octets known reading) comes_from
+    ∙ (ap (datagram_answer settings secrets moment log octets (Some source)) read
     ∙ (ap (λ (test : Bool). update_answer test (report_in inner) passed source moment) good
     ∙ (ap (λ (report : Result (List Record) Unlawful). update_answer true report passed source moment) lawful
     ∙ ap (λ (fault : Option LimitFault). limited_answer fault (Reported source (forwardable_records records) moment)) none)))
 
 -- the answer to a Teardown with a good MAC of an endpoint with some group
-torn_answer : (settings : Settings) (secrets : SecretsValue) (moment : ℕ) (log : List Change) (from : Option EndpointValue) (reading : Result Message Refused) (sender : EndpointValue) (mac : Mac48) (nonce : ℕ)
+torn_answer : (settings : Settings) (secrets : SecretsValue) (moment : ℕ) (log : List Change) (octets : List ℕ) (from : Option EndpointValue) (reading : Result Message Refused) (sender : EndpointValue) (mac : Mac48) (nonce : ℕ)
     (named : EndpointValue) → from ≡ Some sender → reading ≡ Ok (Teardown mac nonce named) → is_good secrets named nonce mac ≡ true → is_live named (memberships_now (table_settings_of settings) log) ≡ true
-    → datagram_answer settings secrets moment log from reading ≡ entered TornDown (Clear named moment)
-torn_answer settings secrets moment log from reading sender mac nonce named comes_from read good live =
-    ap (λ (known : Option EndpointValue). datagram_answer settings secrets moment log known reading) comes_from
-    ∙ (ap (datagram_answer settings secrets moment log (Some sender)) read
+    → datagram_answer settings secrets moment log octets from reading ≡ entered TornDown (Clear named moment)
+torn_answer settings secrets moment log octets from reading sender mac nonce named comes_from read good live =
+    ap (λ (known : Option EndpointValue). datagram_answer settings secrets moment log octets known reading) comes_from
+    ∙ (ap (datagram_answer settings secrets moment log octets (Some sender)) read
     ∙ (ap (λ (test : Bool). teardown_answer test (is_live named (memberships_now (table_settings_of settings) log)) named moment) good
     ∙ ap (λ (test : Bool). teardown_answer true test named moment) live))
 
@@ -41,7 +41,7 @@ outcome-accepted settings first events event endpoint records update =
     let log = accepted_log settings first events in
     let whole : answer_of settings first events event ≡ entered Updated (Reported endpoint (forwardable_records records) (now_of events)) =
     ap (answer_of settings first events) update.came
-    ∙ updated_answer (settings_at settings events) (secrets_of settings first events) (now_of events) log (endpoint_of update.from) (message_of update.bytes) endpoint update.mac update.nonce update.inner records update.source
+    ∙ updated_answer (settings_at settings events) (secrets_of settings first events) (now_of events) log update.bytes (endpoint_of update.from) (message_of update.bytes) endpoint update.mac update.nonce update.inner records update.source
     (spelled_is_read (Update update.mac update.nonce update.inner) update.bytes update.spelled) ((is_good-true (secrets_of settings first events) endpoint update.nonce update.mac).1 update.good)
     (report_in-lawful update.inner records update.lawful) ((none_where_it_fits (table_settings_of (settings_at settings events)) log endpoint (forwardable_records records) (now_of events)).1 update.fits) in (
       ap (λ (answer : EventAnswer). answer.outcome) whole,
@@ -55,7 +55,7 @@ outcome-cleared settings first events event named teardown =
     let log = accepted_log settings first events in
     let whole : answer_of settings first events event ≡ entered TornDown (Clear named (now_of events)) =
     ap (answer_of settings first events) teardown.came
-    ∙ torn_answer (settings_at settings events) (secrets_of settings first events) (now_of events) log (endpoint_of teardown.from) (message_of teardown.bytes) teardown.sender teardown.mac teardown.nonce named teardown.source
+    ∙ torn_answer (settings_at settings events) (secrets_of settings first events) (now_of events) log teardown.bytes (endpoint_of teardown.from) (message_of teardown.bytes) teardown.sender teardown.mac teardown.nonce named teardown.source
     (spelled_is_read (Teardown teardown.mac teardown.nonce named) teardown.bytes teardown.spelled) ((is_good-true (secrets_of settings first events) named teardown.nonce teardown.mac).1 teardown.good)
     teardown.live in (
       ap (λ (answer : EventAnswer). answer.outcome) whole,
@@ -77,7 +77,7 @@ accepted-updated settings first events (Packet bytes) octets same =
     absurd ((packet-judged (settings_at settings events) (secrets_of settings first events) (now_of events) (accepted_log settings first events) bytes).updated same)
 accepted-updated settings first events (Datagram bytes from) octets same =
     let log = accepted_log settings first events in
-    let update = (datagram-judged (settings_at settings events) (secrets_of settings first events) (now_of events) log (endpoint_of from) (message_of bytes)).updated same in
+    let update = (datagram-judged (settings_at settings events) (secrets_of settings first events) (now_of events) log bytes (endpoint_of from) (message_of bytes)).updated same in
     let spelled = read_is_spelled bytes (Update update.mac update.nonce update.inner) update.read in
     let small : AreOctets update.inner = subst AreOctets (sym spelled.inner_field) (AreOctets-drop 12 bytes (octets from bytes refl)) in (
       update.source,
@@ -106,7 +106,7 @@ accepted-torn settings first events (Limits limits) same = cc
 accepted-torn settings first events (Packet bytes) same =
     absurd ((packet-judged (settings_at settings events) (secrets_of settings first events) (now_of events) (accepted_log settings first events) bytes).torn same)
 accepted-torn settings first events (Datagram bytes from) same =
-    let teardown = (datagram-judged (settings_at settings events) (secrets_of settings first events) (now_of events) (accepted_log settings first events) (endpoint_of from) (message_of bytes)).torn same in (
+    let teardown = (datagram-judged (settings_at settings events) (secrets_of settings first events) (now_of events) (accepted_log settings first events) bytes (endpoint_of from) (message_of bytes)).torn same in (
       teardown.named,
       record {
         from = from;

@@ -73,15 +73,15 @@ module _ (terms : TableSettings) (log : List Change) (moment : ℕ) (Updates Tea
   teardown-judged false live named teardown = record { may = tt; updated = λ same. cc; torn = λ same. cc }
 
 module _ (settings : Settings) (secrets : SecretsValue) (moment : ℕ) (log : List Change) where
-  pub datagram-judged : (from : Option EndpointValue) (reading : Result Message Refused)
-      → IsJudged (table_settings_of settings) log moment (IsUpdateOf settings secrets moment log from reading) (IsTeardownOf settings secrets log from reading) (datagram_answer settings secrets moment log from reading)
-  datagram-judged (Some source) (Ok (Update mac nonce inner)) =
+  pub datagram-judged : (octets : List ℕ) (from : Option EndpointValue) (reading : Result Message Refused)
+      → IsJudged (table_settings_of settings) log moment (IsUpdateOf settings secrets moment log from reading) (IsTeardownOf settings secrets log from reading) (datagram_answer settings secrets moment log octets from reading)
+  datagram-judged octets (Some source) (Ok (Update mac nonce inner)) =
       update-judged (table_settings_of settings) log moment _ _ (is_good secrets source nonce mac) (report_in inner) source
       (λ good records lawful none. record { source = source; mac = mac; nonce = nonce; inner = inner; records = records; comes_from = refl; read = refl; good = good; lawful = lawful; none = none })
-  datagram-judged (Some source) (Ok (Teardown mac nonce named)) =
+  datagram-judged octets (Some source) (Ok (Teardown mac nonce named)) =
       teardown-judged (table_settings_of settings) log moment _ _ (is_good secrets named nonce mac) (is_live named (memberships_now (table_settings_of settings) log)) named
       (λ good live. record { sender = source; mac = mac; nonce = nonce; named = named; comes_from = refl; read = refl; good = good; live = live })
-  datagram-judged from reading = record { may = tt; updated = λ same. cc; torn = λ same. cc }
+  datagram-judged octets from reading = record { may = tt; updated = λ same. cc; torn = λ same. cc }
 
   scope-judged : (forwards : Bool) (head : Head) (targets : Head → List EndpointValue) (packet : List ℕ) → IsJudged (table_settings_of settings) log moment ⊥ ⊥ (packet_answer targets packet (by_scope forwards head))
   scope-judged true head targets packet = record { may = tt; updated = λ same. cc; torn = λ same. cc }
@@ -102,7 +102,7 @@ module _ (settings : Settings) (secrets : SecretsValue) (moment : ℕ) (log : Li
   may-enter (Rotate secret) none = tt
   may-enter (Limits limits) none = tt
   may-enter (Packet bytes) none = (packet-judged bytes).may
-  may-enter (Datagram bytes from) none = (datagram-judged (endpoint_of from) (message_of bytes)).may
+  may-enter (Datagram bytes from) none = (datagram-judged bytes (endpoint_of from) (message_of bytes)).may
 
   pub unmoved-made : (event : Event) → filter_map moment_in (event ∷ []) ≡ [] → IsMadeAt moment (event_answer settings secrets moment log event).entry
   unmoved-made event none = may-made (table_settings_of settings) log moment (event_answer settings secrets moment log event).entry (may-enter event none)

@@ -10,7 +10,7 @@ use Rattle.response_mac.specs.ResponseMac.{SecretsValue, is_good}
 use Rattle.endpoint_membership.specs.{Limits.{live_count}, Memberships.{is_live}, Table.{TableSettings, limit_passed, memberships_now}, declared.{change.Change.{Change, TheVariants.{Clear, Mark, Reported}}, limits.LimitFault.{LimitFault}}}
 use Rattle.relay_machine.specs.declared.{event.Event.{Event, TheVariants.{Moment, Datagram, Packet, Rotate, Limits}}, outcome.Outcome.{Outcome}}
 use Rattle.relay_machine.specs.declared.outcome.Outcome.TheVariants.{Moved, Rotated, Resized, Advertised, Queried, BadSource, Undecoded, WrongKind, BadMac, Unlawful, Over, Updated, TornDown, NoTunnel, Copied}
-use Rattle.relay_machine.specs.{declared.{outcome.Unlawful.{Unlawful as Fault}, sends.OneSend.{OneSend}, settings.Settings.{Settings}}, Packets.{copies, head_to_copy, targets_at}, Queries.{query_for}, Settings.{table_settings_of}, Updates.{forwardable_records, report_in}}
+use Rattle.relay_machine.specs.{declared.{outcome.Unlawful.{Unlawful as Fault}, sends.OneSend.{OneSend}, settings.Settings.{Settings}}, Packets.{copies, head_to_copy, targets_at}, Queries.{asks_for_mld, query_for}, Settings.{table_settings_of}, Updates.{forwardable_records, report_in}}
 
 -- what an event comes to, what is sent, and what is entered in the accepted log
 pub record EventAnswer : Type 0 where
@@ -55,26 +55,27 @@ teardown_answer false live named moment = quiet BadMac
 teardown_answer true true named moment = entered TornDown (Clear named moment)
 teardown_answer true false named moment = entered NoTunnel (Clear named moment)
 
--- to a message of this source. An Update needs the MAC of its source, and a Teardown that of the
--- endpoint which it names
-abbrev pub message_answer : Settings → SecretsValue → ℕ → List Change → EndpointValue → Message → EventAnswer
-message_answer settings secrets moment log source (Discovery nonce) = replied Advertised source (Advertisement nonce settings.relay)
-message_answer settings secrets moment log source (Advertisement nonce relay) = quiet (WrongKind 2)
-message_answer settings secrets moment log source (Request v6 nonce) =
+-- to a message of this source, by its octets. An Update needs the MAC of its source, and a Teardown that
+-- of the endpoint which it names
+abbrev pub message_answer : Settings → SecretsValue → ℕ → List Change → List ℕ → EndpointValue → Message → EventAnswer
+message_answer settings secrets moment log octets source (Discovery nonce) = replied Advertised source (Advertisement nonce settings.relay)
+message_answer settings secrets moment log octets source (Advertisement nonce relay) = quiet (WrongKind 2)
+message_answer settings secrets moment log octets source (Request v6 nonce) =
+    let mld = asks_for_mld settings octets v6 in
     let limited = is_limited (table_settings_of settings) log in
-    replied (Queried v6 limited) source (query_for settings secrets.current v6 limited source nonce)
-message_answer settings secrets moment log source (Query limited mac nonce inner seen) = quiet (WrongKind 4)
-message_answer settings secrets moment log source (Update mac nonce inner) =
+    replied (Queried mld limited) source (query_for settings secrets.current mld limited source nonce)
+message_answer settings secrets moment log octets source (Query limited mac nonce inner seen) = quiet (WrongKind 4)
+message_answer settings secrets moment log octets source (Update mac nonce inner) =
     update_answer (is_good secrets source nonce mac) (report_in inner) (λ records. limit_passed (table_settings_of settings) log source records moment) source moment
-message_answer settings secrets moment log source (Multicast packet) = quiet (WrongKind 6)
-message_answer settings secrets moment log source (Teardown mac nonce named) =
+message_answer settings secrets moment log octets source (Multicast packet) = quiet (WrongKind 6)
+message_answer settings secrets moment log octets source (Teardown mac nonce named) =
     teardown_answer (is_good secrets named nonce mac) (is_live named (memberships_now (table_settings_of settings) log)) named moment
 
 -- to a datagram, judged by its source, its octets, its type, and then what it asks
-abbrev pub datagram_answer : Settings → SecretsValue → ℕ → List Change → Option EndpointValue → Result Message Refused → EventAnswer
-datagram_answer settings secrets moment log None reading = quiet BadSource
-datagram_answer settings secrets moment log (Some source) (Err refusal) = quiet (Undecoded refusal)
-datagram_answer settings secrets moment log (Some source) (Ok message) = message_answer settings secrets moment log source message
+abbrev pub datagram_answer : Settings → SecretsValue → ℕ → List Change → List ℕ → Option EndpointValue → Result Message Refused → EventAnswer
+datagram_answer settings secrets moment log octets None reading = quiet BadSource
+datagram_answer settings secrets moment log octets (Some source) (Err refusal) = quiet (Undecoded refusal)
+datagram_answer settings secrets moment log octets (Some source) (Ok message) = message_answer settings secrets moment log octets source message
 
 -- to a packet, where these endpoints want a source in a group
 abbrev pub packet_answer : (Head → List EndpointValue) → List ℕ → Result Head Outcome → EventAnswer
@@ -90,4 +91,4 @@ event_answer settings secrets moment log (Limits limits) = quiet Resized
 event_answer settings secrets moment log (Packet bytes) =
     packet_answer (targets_at (table_settings_of settings) log moment) bytes (head_to_copy settings.packet_limit bytes)
 event_answer settings secrets moment log (Datagram bytes from) =
-    datagram_answer settings secrets moment log (endpoint_of from) (message_of bytes)
+    datagram_answer settings secrets moment log bytes (endpoint_of from) (message_of bytes)

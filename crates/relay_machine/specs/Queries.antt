@@ -1,5 +1,5 @@
 -- The Membership Query that answers a Request.
-use Rattle.std.specs.Prelude.{ℕ, ◌*◌, Bool, true, false, List, Some, if◌then◌else◌}
+use Rattle.std.specs.Prelude.{ℕ, ◌*◌, ◌==◌, ◌||◌, ◌&&◌, not, Bool, true, false, List, slice_index, Option, Some, None, if◌then◌else◌}
 use Rattle.amt_values.specs.EndpointValue.{EndpointValue}
 use Rattle.amt_messages.specs.declared.message.Message.{Message, TheVariants.{Query}}
 use Rattle.igmp_records.specs.{Code.{code_of}, Query.{written_query4}}
@@ -39,9 +39,23 @@ general_query settings false =
 general_query settings true =
     written_inner6 settings.query6 all_nodes (written_query6 settings.query6 all_nodes (query_fields settings true))
 
--- the answer to a source's Request for MLD or IGMP: the MAC of the source and the nonce, the nonce,
--- the General Query, and the source as it was seen; the L flag says whether the relay is limited
--- (RFC 7450, section 5.1.4)
+-- whether a Request of these octets asks for MLD: by its P flag (RFC 7450, section 5.1.3) or, where Linux's
+-- gateways are served, by the second octet 80, since their driver counts the bits from the other end
+abbrev pub asks_for_mld : Settings → List ℕ → Bool → Bool
+asks_for_mld settings octets p_flag = p_flag || (settings.linux_gateways && (slice_index octets 1 == 0x80))
+
+-- the gateway that a Query names: none where Linux's gateways are served, whose driver drops a Query with a
+-- flag, and else the source as it was seen. A relay may leave it out (RFC 7450, section 5.1.4)
+abbrev pub gateway_named : Settings → EndpointValue → Option EndpointValue
+gateway_named settings source = if settings.linux_gateways then None else Some source
+
+-- whether a Query says that the relay is limited: never where Linux's gateways are served, and else where it
+-- is. Without the L flag a Query says nothing of it (RFC 7450, section 5.1.4)
+abbrev pub says_limited : Settings → Bool → Bool
+says_limited settings limited = limited && not settings.linux_gateways
+
+-- the answer to a source's Request for MLD or IGMP: whether the relay is limited, the MAC of the source and
+-- the nonce, the nonce, the General Query, and the gateway that is named (RFC 7450, section 5.1.4)
 abbrev pub query_for : Settings → Secret → Bool → Bool → EndpointValue → ℕ → Message
 query_for settings secret v6 limited source nonce =
-    Query limited (mac_of secret source nonce) nonce (general_query settings v6) (Some source)
+    Query (says_limited settings limited) (mac_of secret source nonce) nonce (general_query settings v6) (gateway_named settings source)

@@ -1,5 +1,5 @@
 -- What a relay may be set up with, and how long a report then counts.
-use Rattle.std.specs.Prelude.{◌≡◌, ℕ, ◌+◌, ◌*◌, ◌<◌, ◌≤◌}
+use Rattle.std.specs.Prelude.{◌≡◌, false, ℕ, ◌+◌, ◌*◌, ◌<◌, ◌≤◌}
 use Rattle.amt_values.specs.declared.address.Ip.{Ip}
 use Rattle.endpoint_membership.specs.Table.{TableSettings}
 use Rattle.igmp_records.specs.Code.{code_value}
@@ -66,7 +66,8 @@ pub record AreLawfulSettings (settings : Settings) : Type 0 where
   pub product : settings.limits.endpoints * settings.limits.groups * settings.limits.sources ≤ 16777216
 
 -- the settings of a relay with this address where nothing else is said: each number is its key's
--- default (RFC 3376, sections 8.1 to 8.3), and queries come from 0.0.0.0 and fe80::1
+-- default (RFC 3376, sections 8.1 to 8.3), queries come from 0.0.0.0 and fe80::1, and Linux's gateways
+-- aren't served
 abbrev pub default_settings : Ip → Settings
 default_settings relay = record {
   relay = relay;
@@ -82,6 +83,7 @@ default_settings relay = record {
     sources = (number_row Sources).default;
   };
   packet_limit = (number_row PacketLimit).default;
+  linux_gateways = false;
 }
 
 -- the Group Membership Interval (RFC 3376, section 8.4), in milliseconds

@@ -25,6 +25,7 @@ fn take_message(
     setup: &Setup,
     secrets: &Secrets,
     table: &mut Table,
+    octets: &[u8],
     source: Endpoint,
     message: &Message,
 ) -> Result<Step, AllocError>
@@ -32,7 +33,7 @@ fn take_message(
     requires within { IsWithinLimits table.old }
     ensures answers { AnswersByLog (table_settings_of setup.now.settings) table.old table.new result (λ log.
         message_answer (settings_in_force setup.now.settings table.old) secrets.now (latest log) log
-        source message.now) }
+        octets.now source message.now) }
     ensures err { OnErr result (table.new ≡ table.old) }
     ensures within { IsWithinLimits table.new }
     ensures short { IfOk result (λ step. AreShort step.sends) }
@@ -40,7 +41,8 @@ fn take_message(
     match message {
         Message::Discovery { nonce } => take_discovery(alloc, setup, source, *nonce),
         Message::Request { v6, nonce } => {
-            take_request(alloc, setup, secrets, table, source, *v6, *nonce)
+            let mld = setup.asks_for_mld(octets, *v6);
+            take_request(alloc, setup, secrets, table, source, mld, *nonce)
         }
         Message::Update { mac, nonce, inner } => {
             let good = secrets.matches(&source, *nonce, mac);
@@ -73,7 +75,7 @@ pub fn take_datagram(
     requires within { IsWithinLimits table.old }
     ensures answers { AnswersByLog (table_settings_of setup.now.settings) table.old table.new result (λ log.
         datagram_answer (settings_in_force setup.now.settings table.old) secrets.now (latest log) log
-        (endpoint_of from.now) (message_of bytes.now)) }
+        bytes.now (endpoint_of from.now) (message_of bytes.now)) }
     ensures err { OnErr result (table.new ≡ table.old) }
     ensures within { IsWithinLimits table.new }
     ensures short { IfOk result (λ step. AreShort step.sends) }
@@ -86,6 +88,6 @@ pub fn take_datagram(
     match decode(alloc, octets) {
         Err(DecodeFault::Memory) => Err(AllocError),
         Err(DecodeFault::Refused(refusal)) => Ok(Step::quiet(alloc, Outcome::Undecoded(refusal))),
-        Ok(message) => take_message(alloc, setup, secrets, table, source, &message),
+        Ok(message) => take_message(alloc, setup, secrets, table, octets, source, &message),
     }
 }

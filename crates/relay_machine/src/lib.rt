@@ -27,7 +27,7 @@ mod teardown;
 mod update;
 
 pub use event::Event;
-pub use laws::lawful_reports_are_those_that_are_read;
+pub use laws::{lawful_reports_are_those_that_are_read, queries_for_linux_have_no_flag};
 pub use number_key::{NUMBER_KEYS, NumberKey, NumberRange};
 pub use outcome::{NotForwarded, Outcome, Unlawful};
 pub use published::steps_hand_out_the_published_log;

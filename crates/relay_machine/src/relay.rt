@@ -1,4 +1,4 @@
-//! The relay as a machine: where it starts, what is read off it, and one step. It knows no message.
+//! The relay as a machine: its start, its numbers and rows, and its step. It knows no message.
 ghost use Rattle.std.{specs.Prelude.{◌≡◌, ◌≤◌, []}, proofs.Props.{props}};
 ghost use Rattle.endpoint_membership.specs.Table.{IsWithinLimits};
 ghost use Rattle.relay_machine.specs.{Settings.{table_settings_of}, State.{HasLog}};

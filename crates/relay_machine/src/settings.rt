@@ -39,11 +39,16 @@ pub struct Settings {
     /// The longest packet that is copied, in octets. A packet of more is dropped, since the tunnel's
     /// datagrams aren't fragmented here.
     pub packet_limit: u32,
+    /// Whether the relay serves Linux's own gateways too. Their driver counts the flags' bits from the other
+    /// end: it drops a Query with the L or the G flag of RFC 7450, section 5.1.4, so none has one, and asks
+    /// for MLD by the second octet `80` (section 5.1.3 has `01`), which is taken so. Without the name that G
+    /// announces a gateway isn't told that its endpoint changed, so it sends no Teardown.
+    pub linux_gateways: bool,
 }
 
 impl Settings {
     /// The settings of a relay with this address: the defaults of RFC 3376, sections 8.1 to 8.3,
-    /// and queries that come from 0.0.0.0 and fe80::1.
+    /// and queries that come from 0.0.0.0 and fe80::1. Linux's gateways aren't served.
     pub fn of_relay(relay: Ip) -> Settings
         ensures value { result ≡ default_settings relay }
         ensures lawful { AreLawfulSettings result }
@@ -62,6 +67,7 @@ impl Settings {
                 sources: NumberKey::Sources.range().default,
             },
             packet_limit: NumberKey::PacketLimit.range().default,
+            linux_gateways: false,
         }
     }
 

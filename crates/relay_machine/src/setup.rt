@@ -20,6 +20,9 @@ const ALL_SYSTEMS: u32 = 0xe000_0001;
 // ff02::1 (RFC 3810, section 5.1.15).
 const ALL_NODES: u128 = 0xff02_0000_0000_0000_0000_0000_0000_0001;
 
+// The P flag of a Request as Linux's driver writes it.
+const LINUX_P: u8 = 0x80;
+
 /// The settings of a relay, and by them the fields of its General Queries of both families: the codes
 /// of their times are found once, and not again at each Request.
 #[derive(Clone, Copy, Debug)]
@@ -38,7 +41,7 @@ pub struct Setup {
 impl Setup {
     ghost use Rattle.std.specs.Prelude.{IfOk};
     ghost use Rattle.amt_messages.specs.Messages.{IsSendable};
-    ghost use Rattle.relay_machine.specs.{Queries.{general_query, query_for}, Settings.{AreLawfulSettings}};
+    ghost use Rattle.relay_machine.specs.{Queries.{asks_for_mld, gateway_named, general_query, query_for, says_limited}, Settings.{AreLawfulSettings}};
 
     pub fn new(settings: Settings) -> Setup
         requires { AreLawfulSettings settings }
@@ -75,6 +78,29 @@ impl Setup {
         write_inner6(alloc, source, ALL_NODES, query.as_slice())
     }
 
+    /// Whether a Request of these octets, whose P flag is given, asks for MLD.
+    pub fn asks_for_mld(&self, octets: &[u8], p_flag: bool) -> bool
+        ensures { result ≡ asks_for_mld self.now.settings octets.now p_flag }
+    {
+        p_flag || self.settings.linux_gateways && octets.len() > 1 && octets[1] == LINUX_P
+    }
+
+    fn gateway_named(&self, source: Endpoint) -> Option<Endpoint>
+        ensures { result ≡ gateway_named self.now.settings source }
+    {
+        if self.settings.linux_gateways {
+            None
+        } else {
+            Some(source)
+        }
+    }
+
+    fn says_limited(&self, limited: bool) -> bool
+        ensures { result ≡ says_limited self.now.settings limited }
+    {
+        limited && !self.settings.linux_gateways
+    }
+
     /// The Query that answers a source's Request under this key, for MLD where `v6` is true.
     pub fn query_for(
         &self,
@@ -94,11 +120,11 @@ impl Setup {
             false => self.igmp_query(alloc)?,
         };
         Ok(Message::Query {
-            limited,
+            limited: self.says_limited(limited),
             mac: key.mac(&source, nonce),
             nonce,
             inner,
-            seen: Some(source),
+            seen: self.gateway_named(source),
         })
     }
 }

@@ -121,30 +121,30 @@ teardown-few false live named moment = omega arith
 teardown-few true true named moment = omega arith
 teardown-few true false named moment = omega arith
 
-message-few : (settings : Settings) (secrets : SecretsValue) (moment : ℕ) (log : List Change) (source : EndpointValue) (message : Message)
-    → HasFew (message_answer settings secrets moment log source message)
-message-few settings secrets moment log source (Discovery nonce) = omega arith
-message-few settings secrets moment log source (Advertisement nonce relay) = omega arith
-message-few settings secrets moment log source (Request v6 nonce) = omega arith
-message-few settings secrets moment log source (Query limited mac nonce inner seen) = omega arith
-message-few settings secrets moment log source (Update mac nonce inner) =
+message-few : (settings : Settings) (secrets : SecretsValue) (moment : ℕ) (log : List Change) (octets : List ℕ) (source : EndpointValue) (message : Message)
+    → HasFew (message_answer settings secrets moment log octets source message)
+message-few settings secrets moment log octets source (Discovery nonce) = omega arith
+message-few settings secrets moment log octets source (Advertisement nonce relay) = omega arith
+message-few settings secrets moment log octets source (Request v6 nonce) = omega arith
+message-few settings secrets moment log octets source (Query limited mac nonce inner seen) = omega arith
+message-few settings secrets moment log octets source (Update mac nonce inner) =
     update-few (is_good secrets source nonce mac) (report_in inner) (λ (records : List Record). limit_passed (table_settings_of settings) log source records moment) source moment
-message-few settings secrets moment log source (Multicast packet) = omega arith
-message-few settings secrets moment log source (Teardown mac nonce named) =
+message-few settings secrets moment log octets source (Multicast packet) = omega arith
+message-few settings secrets moment log octets source (Teardown mac nonce named) =
     teardown-few (is_good secrets named nonce mac) (is_live named (memberships_now (table_settings_of settings) log)) named moment
 
-datagram-few : (settings : Settings) (secrets : SecretsValue) (moment : ℕ) (log : List Change) (source : Option EndpointValue) (reading : Result Message Refused)
-    → HasFew (datagram_answer settings secrets moment log source reading)
-datagram-few settings secrets moment log None reading = omega arith
-datagram-few settings secrets moment log (Some source) (Err refusal) = omega arith
-datagram-few settings secrets moment log (Some source) (Ok message) = message-few settings secrets moment log source message
+datagram-few : (settings : Settings) (secrets : SecretsValue) (moment : ℕ) (log : List Change) (octets : List ℕ) (source : Option EndpointValue) (reading : Result Message Refused)
+    → HasFew (datagram_answer settings secrets moment log octets source reading)
+datagram-few settings secrets moment log octets None reading = omega arith
+datagram-few settings secrets moment log octets (Some source) (Err refusal) = omega arith
+datagram-few settings secrets moment log octets (Some source) (Ok message) = message-few settings secrets moment log octets source message
 
 pub answers-few : (settings : Settings) (first : Secret) (earlier : List Event) (bytes : List ℕ) (from : Peer) (sends all : List OneSend) → sends ≡ sends_of settings first earlier (Datagram bytes from) → all ≡ sends
     → length all ≤ 1
 answers-few settings first earlier bytes from sends all are same =
     subst (λ (list : List OneSend). length list ≤ 1) (sym same)
     (subst (λ (list : List OneSend). length list ≤ 1) (sym are)
-    (datagram-few (settings_at settings earlier) (secrets_of settings first earlier) (now_of earlier) (accepted_log settings first earlier) (endpoint_of from) (message_of bytes)))
+    (datagram-few (settings_at settings earlier) (secrets_of settings first earlier) (now_of earlier) (accepted_log settings first earlier) bytes (endpoint_of from) (message_of bytes)))
 
 -- such a datagram is counted before its answers are
 pub datagram-room : (before after : Counts) (bytes : List ℕ) (from : Peer) (outcome : Outcome) → after ≡ with_outcome before (Datagram bytes from) outcome → before.sent + before.unsent ≤ before.datagrams

@@ -1,9 +1,9 @@
 -- A text of a form fails for no reason, and names one value.
-use Rattle.std.{proofs.{Common.{◌≡◌, ℕ, ◌^◌, ◌<◌, ◌≤◌, List, [], ◌∷◌, ◌++◌, length, codes, None, Ok, inl, inr, refl, sym, subst, ap, ◌∙◌, arith}, lemmas.Fmt.{decimal_injective}}, specs.Int.{IsInRange}}
+use Rattle.std.{proofs.{Common.{◌≡◌, ℕ, ◌^◌, ◌<◌, ◌≤◌, Bool, true, false, List, [], ◌∷◌, ◌++◌, length, codes, None, Ok, inl, inr, refl, sym, subst, ap, ◌∙◌, arith}, lemmas.Fmt.{decimal_injective}}, specs.Int.{IsInRange}}
 use Rattle.hex.{specs.Hex.{decode_of}, proofs.HexLemmas.{decode_of-odd, decode_of-ok, decode_of-same}}
 use Rattle.amt_values.specs.{declared.{address.Ip.{Ip, TheVariants.{V4, V6}}, peer.Peer.{Peer}}, Text.{IsIpText, IsPeerText}}
 use Rattle.response_mac.specs.declared.secret.Secret.{Secret}
-use Rattle.script_lines.{specs.{declared.reason.Reason.{Reason}, Form.{Form, Fails, IsMomentText, IsNumberText, IsHexText, IsSecretText, a_moment, a_number, some_octets, a_secret, an_address, an_address4, an_address6, a_peer}, Shape.{FailsIn, SomeFails, HasField}}, proofs.Numbers.{value_of_number, numeral_of_number}}
+use Rattle.script_lines.{specs.{declared.reason.Reason.{Reason}, Form.{Form, Fails, IsFlagText, IsMomentText, IsNumberText, IsHexText, IsSecretText, a_flag, a_moment, a_number, some_octets, a_secret, an_address, an_address4, an_address6, a_peer}, Shape.{FailsIn, SomeFails, HasField}}, proofs.Numbers.{value_of_number, numeral_of_number}}
 use Rattle.script_lines.specs.declared.reason.Reason.TheVariants as reasons
 
 -- a text of a form fails for no reason
@@ -29,6 +29,17 @@ octets_fit bytes text names reason fails = fails
 pub secret_fits : (secret : Secret) (text : List ℕ) → IsSecretText secret text → (reason : Reason) → Fails a_secret text reason → ⊥
 secret_fits secret text names reasons.Hex fails = fails secret names
 secret_fits secret text names reason fails = fails
+
+pub flag_fits : (flag : Bool) (text : List ℕ) → IsFlagText flag text → (reason : Reason) → Fails a_flag text reason → ⊥
+flag_fits flag text names reasons.Range fails = fails flag names
+flag_fits flag text names reason fails = fails
+
+-- no word is of two flags
+pub IsFlagText-unique : (one other : Bool) (text : List ℕ) → IsFlagText one text → IsFlagText other text → one ≡ other
+IsFlagText-unique true true text h k = refl
+IsFlagText-unique false false text h k = refl
+IsFlagText-unique true false text h k = cc (sym h ∙ k)
+IsFlagText-unique false true text h k = cc (sym h ∙ k)
 
 pub address_fits : (ip : Ip) (text : List ℕ) → IsIpText ip text → (reason : Reason) → Fails an_address text reason → ⊥
 address_fits ip text names reasons.Address fails = fails ip names

@@ -6,12 +6,12 @@ use Rattle.amt_values.specs.{declared.{address.Ip.{Ip, TheVariants.{V4, V6}}, pe
 use Rattle.response_mac.specs.declared.secret.Secret.{Secret}
 use Rattle.source_filter.specs.declared.mode.Mode.{Mode}
 use Rattle.group_records.specs.{declared.family.Family.{Family}, Written.{is_of_family}}
-use Rattle.script_lines.specs.{Texts.{family_text, mode_text}, declared.reason.Reason.{Reason}}
+use Rattle.script_lines.specs.{Texts.{family_text, flag_text, mode_text}, declared.reason.Reason.{Reason}}
 use Rattle.script_lines.specs.declared.reason.Reason.TheVariants as reasons
 
 -- what a field may be: a moment, a number from a least to a most one, octets, a secret, a nonce, an address
 -- of either family, an IPv4 address, an IPv6 address, an address of a family where it is known, a peer, a
--- name, a filter mode, a group of a family where it is known, a family
+-- name, a filter mode, a group of a family where it is known, a family, a flag
 pub data Form : Type 0 where
   a_moment : Form
   a_number : ℕ → ℕ → Form
@@ -27,6 +27,7 @@ pub data Form : Type 0 where
   a_mode : Form
   a_group : Option Family → Form
   a_family : Form
+  a_flag : Form
 
 -- the decimal digits of a moment
 abbrev pub IsMomentText : ℕ → List ℕ → Type 0
@@ -83,6 +84,10 @@ IsModeText mode text = text ≡ mode_text mode
 abbrev pub IsFamilyText : Family → List ℕ → Type 0
 IsFamilyText family text = text ≡ family_text family
 
+-- the word of a flag
+abbrev pub IsFlagText : Bool → List ℕ → Type 0
+IsFlagText flag text = text ≡ flag_text flag
+
 -- no value of the form has this text, and this is the reason
 abbrev pub Fails : Form → List ℕ → Reason → Type 0
 Fails a_moment text reasons.Number = IsNumeral text → 2 ^ 62 ≤ numeral_value text
@@ -101,4 +106,5 @@ Fails a_name text reasons.Name = IsName text → ⊥
 Fails a_mode text reasons.Mode = (mode : Mode) → IsModeText mode text → ⊥
 Fails (a_group family) text reasons.Group = (group : Ip) → IsGroupText family group text → ⊥
 Fails a_family text reasons.Word = (family : Family) → IsFamilyText family text → ⊥
+Fails a_flag text reasons.Range = (flag : Bool) → IsFlagText flag text → ⊥
 Fails form text reason = ⊥

@@ -1,5 +1,5 @@
 -- What several kinds of script print.
-use Rattle.std.specs.{Prelude.{◌≡◌, ℕ, List, [], ◌∷◌, ◌++◌, codes, decimal}, Int.{w32, to_be_bytes}}
+use Rattle.std.specs.{Prelude.{◌≡◌, ℕ, Bool, true, false, List, [], ◌∷◌, ◌++◌, codes, decimal}, Int.{w32, to_be_bytes}}
 use Rattle.hex.specs.Hex.{encode_lower}
 use Rattle.amt_values.specs.{declared.peer.Peer.{Peer}, Text.{peer_text}}
 use Rattle.group_records.specs.declared.family.Family.{Family, TheVariants.{V4, V6}}
@@ -29,6 +29,11 @@ mode_text Exclude = codes "exclude"
 abbrev pub family_text : Family → List ℕ
 family_text V4 = codes "v4"
 family_text V6 = codes "v6"
+
+-- whether something is so
+abbrev pub flag_text : Bool → List ℕ
+flag_text true = codes "true"
+flag_text false = codes "false"
 
 -- `> PEER HEX`: a datagram that is sent, and to whom
 unfoldable pub send_line : Peer → List ℕ → List ℕ

@@ -37,6 +37,6 @@ pub use running::{ScriptRun, run_script};
 pub use text::{append_closing, append_hex, append_nonce, append_numbered, append_send};
 pub use values::{
     OctetsError, is_name, is_number, mode_word, read_address, read_address4, read_address6,
-    read_family, read_group, read_mode, read_moment, read_nonce, read_number, read_octets,
-    read_secret,
+    read_family, read_flag, read_group, read_mode, read_moment, read_nonce, read_number,
+    read_octets, read_secret,
 };

@@ -2,7 +2,7 @@
 
 ghost use Rattle.std.specs.Prelude.{◌≡◌, ◌<◌, ◌⊎◌, IfOk, IfErr, IfSome, IfNone, IsErrOf, IsTrue, Some, ◌↔◌};
 ghost use Rattle.amt_values.specs.{declared.address.Ip.{Ip as IpValue, TheVariants.{V4, V6}}, Numeral.{IsNumeral}, Text.{IsIpText}};
-ghost use Rattle.script_lines.specs.{Texts.{mode_text}, Form.{Fails, IsAddressText, IsFamilyText, IsGroupText, IsHexText, IsModeText, IsMomentText, IsName, IsNameOctet, IsNonceText, IsNumberText, IsSecretText, a_family, a_group, a_mode, a_moment, a_nonce, a_number, a_secret, an_address4, an_address6, an_address_of, is_of, some_octets}};
+ghost use Rattle.script_lines.specs.{Texts.{mode_text}, Form.{Fails, IsAddressText, IsFamilyText, IsFlagText, IsGroupText, IsHexText, IsModeText, IsMomentText, IsName, IsNameOctet, IsNonceText, IsNumberText, IsSecretText, a_family, a_flag, a_group, a_mode, a_moment, a_nonce, a_number, a_secret, an_address4, an_address6, an_address_of, is_of, some_octets}};
 
 use crate::reason::Reason;
 use amt_values::{Bytes, Ip, Moment, NumeralFault, forwardable, parse_ip, parse_numeral};
@@ -217,6 +217,20 @@ pub fn read_family(text: &[u8]) -> Option<Family>
     }
     if text == b"v6".as_slice() {
         return Some(Family::V6);
+    }
+    None
+}
+
+/// Whether something is so, by its word.
+pub fn read_flag(text: &[u8]) -> Option<bool>
+    ensures found { IfSome result (λ flag. IsFlagText flag text.now) }
+    ensures none { IfNone result (Fails a_flag text.now Reason.Range) }
+{
+    if text == b"true".as_slice() {
+        return Some(true);
+    }
+    if text == b"false".as_slice() {
+        return Some(false);
     }
     None
 }

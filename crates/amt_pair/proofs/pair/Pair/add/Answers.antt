@@ -27,7 +27,7 @@ invariant_of-self-clause-own_endpoints c =
 pub returns-in-Ok-push-clause-added : goal.returns-in-Ok-push-clause-added
 returns-in-Ok-push-clause-added c = λ settings secret hosts at.
     let before : PairSetup = record { settings = settings; secret = secret; hosts = hosts } in
-    let host : Host = record { name = c.args.name.now; peer = c.args.peer; settings = settings_of_host settings c.args.v6 c.args.source } in
+    let host : Host = record { name = c.args.name.now; peer = c.args.peer; settings = settings_of_host settings c.args.v6 c.args.linux_relay c.args.source } in
     let stands : StandsFor c.args.self.now before (start before) =
     subst (λ (course : Course). StandsFor c.args.self.now before course) (course_of-none before) at.stands in
     let free : has_taken c.args.name.now c.args.peer hosts ≡ _ =
@@ -35,7 +35,7 @@ returns-in-Ok-push-clause-added c = λ settings secret hosts at.
     ∙ sym c.is_taken.ensures ∙ c.if-is_taken.false in
     let peer : c.args.self.now.peer ≡ relay_peer settings = c.args.self.now.peer_is ∙ ap relay_peer stands.relay.settings_kept in
     let gateway : GatewayAt c.in-Ok.gateway host.settings first_nonce [] =
-    subst (λ (relay : Peer). GatewayAt c.in-Ok.gateway (record { v6 = c.args.v6; discovery = relay; relay = None; port = amt_port; source = c.args.source }) first_nonce [])
+    subst (λ (relay : Peer). GatewayAt c.in-Ok.gateway (record { v6 = c.args.v6; discovery = relay; relay = None; port = amt_port; source = c.args.source; linux_relay = c.args.linux_relay }) first_nonce [])
     peer c.in-Ok.ensures.stands in
     pair_at_start _ (record { settings = settings; secret = secret; hosts = hosts ++ host ∷ [] }) (record {
       settings = at.setup_lawful.settings;
