@@ -48,8 +48,6 @@ module _ (setup : DualSetup) (schedule : List DualPairEvent) (machine : Member) 
           now-agree sight (machines_in setup) (dual_course_of setup schedule) machine.host first endpoint InTime report (dual-logged-after setup schedule) stands heard_in short in_time group source
           (shows-family machine.host endpoint group own) machine heard.among (machine-own machine.host) active
 
--- ---- the rows let in what the relay forwards
-
 pub rows-forwarded : (setup : DualSetup) (schedule : List DualPairEvent) (endpoint : EndpointValue) (group source : Ip)
     → rows_admit (rows_after setup.settings setup.secret (dual_course_of setup schedule).relay) endpoint group source ≡ dual_admits setup schedule endpoint group source
 rows-forwarded setup schedule endpoint group source = rows-course (machines_in setup) (dual_course_of setup schedule) endpoint group source

@@ -45,8 +45,6 @@ module _ (setup : DualSetup) (Fact : Course → Type 0)
   unfolding dual_course_of
   kept-after fact schedule = kept-along schedule (dual_pair_start pair) fact
 
--- ---- the machines
-
 reached_machines : (event : GatewayEvent) (reaches : Member → Bool) (members : List Member) → map host_at (map (if_reached event reaches) members) ≡ map host_at members
 reached_machines event reaches [] = refl
 reached_machines event reaches (member ∷ members) =
@@ -81,8 +79,6 @@ dual_pair_at_more before after setup schedule event at may fits stands = record 
       (record { may_come = subst (λ (hosts : List Host). DualMayCome hosts event) (pair_machines before setup schedule at.stands) may; fits = fits });
   stands = subst (λ (course : Course). StandsFor after (machines_in setup) course) (sym (dual_course_of-more setup schedule event)) stands;
 }
-
--- ---- the entries
 
 changes_of-with_entry : (entries : List Entry) (by : Option Upward) (found : Option Change) → changes_of (with_entry entries by found) ≡ with_change (changes_of entries) found
 changes_of-with_entry entries by None = refl

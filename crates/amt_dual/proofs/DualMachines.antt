@@ -1,10 +1,17 @@
 -- A step of a dual gateway by those of its machines.
-use Rattle.{std.proofs.{Common.{◌≡◌, ℕ, Bool, true, false, List, [], ◌∷◌, ◌++◌, map, Some, None, refl, sym, ap, ◌∙◌, subst}, lemmas.Bool.{cond-false, cond-true}}, amt_values.specs.declared.peer.Peer.{Peer}, amt_pair.specs.Parts.{gateway_step}, gateway_machine.specs.{Answers.{Answer}, Runs.{GatewayAt, answer_in}, Sends.{datagram_of}, declared.{event.GatewayEvent.{GatewayEvent, TheVariants.{Datagram as Heard}}, gateway.Gateway.{Gateway}, step.GatewayStep.{GatewayStep}}}, amt_dual.specs.Answers.{AreSteps, DualCourse, DualSettings, answer_by, dual_answer, is_ignored, machine_run, nonce_for, settings_by, with_dual_event}, amt_dual.specs.declared.{event.DualEvent.TheVariants.{Datagram, Socket}}}
+use Rattle.{std.proofs.{Common.{◌≡◌, ℕ, Bool, true, false, List, [], ◌∷◌, ◌++◌, map, IfOk, Result, Ok, Err, Some, None, refl, sym, ap, ◌∙◌, subst}, lemmas.Bool.{cond-false, cond-true}}, amt_values.specs.declared.peer.Peer.{Peer}, amt_pair.specs.Parts.{gateway_step}, gateway_machine.specs.{Answers.{Answer}, Runs.{GatewayAt, answer_in, settings_of}, Sends.{datagram_of}, declared.{event.GatewayEvent.{GatewayEvent, TheVariants.{Datagram as Heard}}, gateway.Gateway.{Gateway}, step.GatewayStep.{GatewayStep}}}, amt_dual.specs.Answers.{AreSteps, DualAt, DualCourse, DualSettings, answer_by, dual_answer, is_ignored, machine_run, nonce_for, settings_at, settings_by, with_dual_event}, amt_dual.specs.declared.{event.DualEvent.TheVariants.{Datagram, Socket}}}
 
 -- a step of a machine is what its fields say
-pub step_is : (answer : Answer) (step : GatewayStep) → step.outcome ≡ answer.outcome → step.sends ≡ map datagram_of answer.sends → step.deliver ≡ answer.deliver
-    → step ≡ gateway_step answer
-step_is answer step outcome sends deliver = λ i. record { outcome = outcome i; sends = sends i; deliver = deliver i }
+pub step_is : {E : Type 0} (answer : Answer) (result : Result GatewayStep E) → IfOk result (λ step. step.outcome ≡ answer.outcome)
+    → IfOk result (λ step. step.sends ≡ map datagram_of answer.sends) → IfOk result (λ step. step.deliver ≡ answer.deliver) → IfOk result (λ step. step ≡ gateway_step answer)
+step_is answer (Ok step) outcome sends deliver = λ i. record { outcome = outcome i; sends = sends i; deliver = deliver i }
+step_is answer (Err error) outcome sends deliver = tt
+
+-- what each machine was set up with stays
+pub settings_stay : (v4 v6 v4' v6' : Gateway) → settings_of v4' ≡ settings_of v4 → settings_of v6' ≡ settings_of v6 → (family : Bool)
+    → settings_at (record { v4 = v4'; v6 = v6' }) family ≡ settings_at (record { v4 = v4; v6 = v6 }) family
+settings_stay v4 v6 v4' v6' same4 same6 true = same6
+settings_stay v4 v6 v4' v6' same4 same6 false = same4
 
 module _ (settings : DualSettings) (course : DualCourse) where
   -- what the machine of a family answers
@@ -14,8 +21,6 @@ module _ (settings : DualSettings) (course : DualCourse) where
   -- the machine of a family is where its events leave it
   abbrev pub IsAfter : Bool → Gateway → List GatewayEvent → Type 0
   IsAfter v6 gateway events = GatewayAt gateway (settings_by settings v6) (nonce_for settings.nonce v6) events
-
-  -- ---- a datagram
 
   module _ (from : Peer) (bytes : List ℕ) (event : GatewayEvent) (is : event ≡ Heard from bytes) where
     pub ignored_by_step : (step : GatewayStep) (answer : Bool) → step ≡ gateway_step (answer_of false event) → answer ≡ is_ignored step.outcome
@@ -50,9 +55,17 @@ module _ (settings : DualSettings) (course : DualCourse) where
     stays6 gateway at taken =
         subst (IsAfter true gateway) (sym (cond-false (is_ignored (answer_by settings course (Datagram from bytes) false).outcome) (course.v6 ++ Heard from bytes ∷ []) course.v6 taken)) at
 
-  -- ---- a socket call
-
   module _ (event : GatewayEvent) (step : GatewayStep) where
+    pub next6 : (v6 : Bool) (v4 v6' : Gateway) → v6 ≡ true → IsAfter false v4 course.v4 → IsAfter true v6' (course.v6 ++ event ∷ [])
+        → DualAt (record { v4 = v4; v6 = v6' }) settings (with_dual_event settings course (Socket v6 event))
+    next6 true v4 v6' is at4 at6 = record { v4 = at4; v6 = at6 }
+    next6 false v4 v6' is at4 at6 = absurd cc
+
+    pub next4 : (v6 : Bool) (v4 v6' : Gateway) → v6 ≡ false → IsAfter false v4 (course.v4 ++ event ∷ []) → IsAfter true v6' course.v6
+        → DualAt (record { v4 = v4; v6 = v6' }) settings (with_dual_event settings course (Socket v6 event))
+    next4 false v4 v6' is at4 at6 = record { v4 = at4; v6 = at6 }
+    next4 true v4 v6' is at4 at6 = absurd cc
+
     pub called6 : (v6 : Bool) → v6 ≡ true → step ≡ gateway_step (answer_of true event) → AreSteps settings course (Socket v6 event) (record { v4 = None; v6 = Some step; starved = false })
     called6 true is same = record { v4 = refl; v6 = ap (λ (one : GatewayStep). Some one) same }
     called6 false is same = absurd cc

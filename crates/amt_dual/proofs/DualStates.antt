@@ -1,14 +1,14 @@
 -- What a pair with dual gateways stands for: after a step of the relay, of one machine, or of all; and with one more gateway.
-use Rattle.{std.{proofs.{Props.{props}, Common.{◌≡◌, ◌≢◌, ◌<◌, ◌&&◌, not, ℕ, zero, suc, HoldsAt, Bool, true, false, List, [], ◌∷◌, ◌++◌, map, flat_map, take, get_or, length, All, Contains, refl, sym, ap, ◌∙◌, subst, arith, OnOk, OnErr, Result, Ok, Err}, lemmas.{Bool.{and_from, and_parts}, Grind.{flat_map-append}, List.{map-append, get_or-map, length-map, Elements.{All-cons, All-head, All-nil, All-tail}, Quantifiers.{all_pairs_push}}}}, specs.Cmp.{nat_eq_equiv, Lexicographic.{lists_equiv, same_text}}}, amt_values.specs.declared.peer.Peer.{Peer}, gateway_machine.specs.{Answers.{same_peer}, Events.{IsEventOf}, Runs.{settings_of}, declared.{event.GatewayEvent.{GatewayEvent}, outcome.GatewayOutcome.{GatewayOutcome, TheVariants.{Ignored}}}, Outcomes.{IsRefused}}, relay_machine.specs.{Accepted.{change_of}, Answers.{outcome_of, sends_of}, declared.{event.Event.{Event}, relay.Relay.{Relay as RelayValue}, sends.{OneSend.{OneSend}, Step.{Step}}, settings.Settings.{Settings}}}, socket_merge.specs.History.{same_name}, amt_pair.specs.{Members.{AreMembersAt, AreShort, AreShortSends, host_of}, OwnEndpoints.{HasOwnEndpoint}, Parts.{gateway_part, gateway_parts, gateway_step, relay_step}, Schedule.{Course, Member, answer_at}, Setup.{Host, PairSetup, relay_peer}, declared.{datagrams.UpDatagram.{UpDatagram}, gateways.NamedGateway.{NamedGateway}, step.Part.{Part}}}, amt_pair.proofs.{Alone.{PassesOnce}, HeardQueries.{same_peer-itself}, MembersAt.{are_at, host_at, host_is, hosts_are, lengths_are}}, amt_dual.specs.{Answers.{is_ignored, is_machine}, InTurn.{is_ignored_part, part_of, parts_in_turn}, Parts.{machine_part, machine_parts}, Schedule.{IsDualPairEvent, at_first, dual_pair_start, is_called}, Setup.{AreDualApart, DualHost, DualSetup, IsLawfulDualSetup, machine_of, machines_in, machines_of}, State.{DualPairAt, StandsFor, machines}, Twins.{AreMachinesApart, are_of_one, are_twins}}, amt_dual.{specs.declared.{pair.DualPair.{DualPair}, step.DualPart.{TheVariants.{Gateway, Relay}}}, proofs.{DualCourses.{dual_course_of-none, start_machines}, MachineDeliveries.{IsForMachine, for_machine}, TwinPlaces.{IsFree, machine-is, once_called, one-machine, twin-first, twin-second}}}}
+use Rattle.{std.{proofs.{Props.{props}, Common.{◌≡◌, ◌≢◌, ◌<◌, ◌&&◌, not, ℕ, zero, suc, HoldsAt, Bool, true, false, List, [], ◌∷◌, ◌++◌, map, flat_map, take, get_or, length, All, Contains, refl, sym, ap, ◌∙◌, subst, arith, IfOk, OnOk, OnErr, Result, Ok, Err}, lemmas.{Bool.{and_from, and_parts}, Grind.{flat_map-append}, List.{map-append, get_or-map, length-map, Elements.{All-cons, All-head, All-nil, All-tail}, Quantifiers.{all_pairs_push}}}}, specs.Cmp.{nat_eq_equiv, Lexicographic.{lists_equiv, same_text}}}, amt_values.specs.declared.peer.Peer.{Peer}, gateway_machine.specs.{Answers.{same_peer}, Events.{IsEventOf}, Runs.{settings_of}, declared.{event.GatewayEvent.{GatewayEvent}, outcome.GatewayOutcome.{GatewayOutcome, TheVariants.{Ignored}}}, Outcomes.{IsRefused}}, relay_machine.specs.{Accepted.{change_of}, Answers.{outcome_of, sends_of}, declared.{event.Event.{Event}, relay.Relay.{Relay as RelayValue}, sends.{OneSend.{OneSend}, Step.{Step}}, settings.Settings.{Settings}}}, socket_merge.specs.History.{same_name}, amt_pair.specs.{Members.{AreMembersAt, AreShort, AreShortSends, host_of}, OwnEndpoints.{HasOwnEndpoint}, Parts.{gateway_part, gateway_parts, gateway_step, relay_step}, Schedule.{Course, Member, answer_at}, Setup.{Host, PairSetup, relay_peer}, declared.{datagrams.UpDatagram.{UpDatagram}, gateways.NamedGateway.{NamedGateway}, step.Part.{Part}}}, amt_pair.proofs.{Alone.{PassesOnce}, HeardQueries.{same_peer-itself}, MembersAt.{are_at, host_at, host_is, hosts_are, lengths_are}}, amt_dual.specs.{Answers.{is_ignored, is_machine}, InTurn.{is_ignored_part, part_of, parts_in_turn}, Parts.{machine_part, machine_parts}, Schedule.{IsDualPairEvent, at_first, dual_pair_start, is_called}, Setup.{AreDualApart, DualHost, DualSetup, IsLawfulDualSetup, machine_of, machines_in, machines_of}, State.{DualPairAt, StandsFor, machines}, Twins.{AreMachinesApart, are_of_one, are_twins}}, amt_dual.{specs.declared.{pair.DualPair.{DualPair}, step.DualPart.{TheVariants.{Gateway}}}, proofs.{DualCourses.{dual_course_of-none, start_machines}, MachineDeliveries.{IsForMachine, for_machine}, TwinPlaces.{IsFree, machine-is, once_called, one-machine, twin-first, twin-second}}}}
 use mathlib.Core.HLevel.{is_prop→PathP}
 
--- ---- a step
-
 -- a step of the relay is what its fields say
-pub relay_part : (setup : PairSetup) (course : Course) (event : Event) (step : Step) → step.outcome ≡ outcome_of setup.settings setup.secret course.relay event
-    → step.sends ≡ sends_of setup.settings setup.secret course.relay event → step.change ≡ change_of setup.settings setup.secret course.relay event
-    → Relay step ≡ Relay (relay_step setup course event)
-relay_part setup course event step outcome sends change = λ i. Relay (record { outcome = outcome i; sends = sends i; change = change i })
+pub relay_step_is : {E : Type 0} (setup : PairSetup) (course : Course) (event : Event) (result : Result Step E)
+    → IfOk result (λ step. step.outcome ≡ outcome_of setup.settings setup.secret course.relay event)
+    → IfOk result (λ step. step.sends ≡ sends_of setup.settings setup.secret course.relay event)
+    → IfOk result (λ step. step.change ≡ change_of setup.settings setup.secret course.relay event) → IfOk result (λ step. step ≡ relay_step setup course event)
+relay_step_is setup course event (Ok step) outcome sends change = λ i. record { outcome = outcome i; sends = sends i; change = change i }
+relay_step_is setup course event (Err error) outcome sends change = tt
 
 -- what is ignored changes nothing
 pub refused-ignored : (outcome : GatewayOutcome) → is_ignored outcome ≡ true → IsRefused outcome
@@ -27,8 +27,6 @@ stands_by setup before after pair stands same = subst (StandsFor pair setup) sam
 pub ignored_by : (event : GatewayEvent) (part : Part) (member : Member) (answer : Bool) → part ≡ gateway_part event member → answer ≡ is_ignored_part part
     → answer ≡ is_ignored (answer_at member event).outcome
 ignored_by event part member answer is told = told ∙ ap is_ignored_part is
-
--- ---- parts in turn
 
 -- members of each family in turn, the first of which is of this one
 abbrev pub AreInTurn : Bool → List Member → Type 0
@@ -51,11 +49,6 @@ pub turns_are : (event : GatewayEvent) (v6 : Bool) (members : List Member) → A
 turns_are event v6 [] are = refl
 turns_are event v6 (member ∷ members) are = λ i. machine_part_is event v6 member are.0 i ∷ turns_are event (not v6) members are.1 i
 
--- ---- the machine that is called
-
-abbrev is_named : List ℕ → Bool → Host → Bool
-is_named name v6 host = same_name name host.name && is_machine v6 host.settings.v6
-
 -- the machine of a name and a family
 pub record IsCalled (event : GatewayEvent) (name : List ℕ) (v6 : Bool) (course : Course) (place : ℕ) : Type 0 where
   pub member : Member
@@ -69,7 +62,7 @@ pub called_one : (event : GatewayEvent) (name : List ℕ) (v6 : Bool) (gateways 
 called_one event name v6 gateways course place are within apart found =
     let at = are_at gateways course.members place are within in
     let passes : is_called name v6 at.member ≡ true =
-    ap (is_named name v6) (sym (host_is at.named at.member at.at)) ∙ ap (λ (one : NamedGateway). is_named name v6 (host_of one)) (sym at.here) ∙ found at.named in
+    ap (λ (host : Host). same_name name host.name && is_machine v6 host.settings.v6) (sym (ap host_of at.here ∙ host_is at.named at.member at.at)) ∙ found at.named in
     let once : PassesOnce (is_called name v6) course.members = once_called course.members (subst AreMachinesApart (hosts_are gateways course.members are) apart) name v6 in
     record {
       member = at.member;
@@ -89,8 +82,6 @@ machine_may_come event name v6 gateways place host apart within found contains n
     let is = and_parts (same_name name one.name) (is_machine v6 (settings_of one.gateway).v6) (found default) in
     subst (λ (which : Host). IsEventOf which.settings event)
     (one-machine (map host_of gateways) host (host_of one) apart contains listed (named ∙ same_text name one.name (sym is.0)) (kind ∙ machine-is v6 (settings_of one.gateway).v6 is.1)) may
-
--- ---- one more gateway
 
 pub twins_of : (settings : Settings) (host : DualHost) → are_of_one (machine_of settings false host) (machine_of settings true host) ≡ true
 twins_of settings host =
@@ -126,11 +117,6 @@ dual_apart_more hosts host apart free = record {
 pub none_dual_apart : AreDualApart []
 none_dual_apart = record { names = λ i j d low within. absurd (omega arith); peers = λ i j d low within. absurd (omega arith) }
 
--- the machines with those of one more gateway
-pub machines_more : (settings : Settings) (hosts : List DualHost) (host : DualHost)
-    → flat_map (machines_of settings) (hosts ++ host ∷ []) ≡ flat_map (machines_of settings) hosts ++ machines_of settings host
-machines_more settings hosts host = flat_map-append (machines_of settings) hosts (host ∷ [])
-
 members_append : (gateways more : List NamedGateway) (members others : List Member) → AreMembersAt gateways members → AreMembersAt more others → AreMembersAt (gateways ++ more) (members ++ others)
 members_append [] more [] others are also = also
 members_append (named ∷ gateways) more (member ∷ members) others are also = (are.0, members_append gateways more members others are.1 also)
@@ -143,7 +129,7 @@ pub members_more_at_start : (settings : Settings) (gateways after both : List Na
 members_more_at_start settings gateways after both hosts host are new hosts_are appended =
     let old : List Host = flat_map (machines_of settings) hosts in
     subst (λ (all : List NamedGateway). AreMembersAt all (map at_first (flat_map (machines_of settings) (hosts ++ host ∷ [])))) (sym appended)
-    (subst (λ (all : List Host). AreMembersAt (gateways ++ both) (map at_first all)) (sym (machines_more settings hosts host))
+    (subst (λ (all : List Host). AreMembersAt (gateways ++ both) (map at_first all)) (sym (flat_map-append (machines_of settings) hosts (host ∷ [])))
     (subst (AreMembersAt (gateways ++ both)) (sym (map-append at_first old (machines_of settings host)))
     (members_append gateways both (map at_first old) (map at_first (machines_of settings host)) are
     (subst (λ (all : List Host). AreMembersAt both (map at_first all)) hosts_are new))))
@@ -173,31 +159,11 @@ pub on_err_also : {T E A : Type 0} (result : Result T E) (new same old : A) → 
 on_err_also (Ok value) new same old is err = tt
 on_err_also (Err fault) new same old is err = err ∙ is
 
--- ---- what else a pair holds are proofs
-
 -- a pair with another relay and other gateways and datagrams
 abbrev pub built : (pair : DualPair) (relay : RelayValue) (gateways : List NamedGateway) (up : List UpDatagram) (down : List OneSend) → pair.peer ≡ relay_peer relay.setup.settings
     → are_twins (map host_of gateways) ≡ true → AreMachinesApart (map host_of gateways) → All (λ host. HasOwnEndpoint host.peer) (map host_of gateways) → AreShort up → AreShortSends down → DualPair
 built pair relay gateways up down peer_is twins apart own up_short down_short =
     record pair { relay = relay; gateways = gateways; up = up; down = down; peer_is = peer_is; twins = twins; apart = apart; own_endpoints = own; up_short = up_short; down_short = down_short }
-
-peer_prop : (pair : DualPair) (relay : RelayValue) → IsProp (pair.peer ≡ relay_peer relay.setup.settings)
-peer_prop pair relay = hlevel props
-
-twins_prop : (gateways : List NamedGateway) → IsProp (are_twins (map host_of gateways) ≡ true)
-twins_prop gateways = hlevel props
-
-apart_prop : (gateways : List NamedGateway) → IsProp (AreMachinesApart (map host_of gateways))
-apart_prop gateways = hlevel props
-
-own_prop : (gateways : List NamedGateway) → IsProp (All (λ host. HasOwnEndpoint host.peer) (map host_of gateways))
-own_prop gateways = hlevel props
-
-up_prop : (up : List UpDatagram) → IsProp (AreShort up)
-up_prop up = hlevel props
-
-down_prop : (sends : List OneSend) → IsProp (AreShortSends sends)
-down_prop sends = hlevel props
 
 pub same_pair : (pair : DualPair) (relay : RelayValue) (gateways : List NamedGateway) (up : List UpDatagram) (down : List OneSend) (peer_is : pair.peer ≡ relay_peer relay.setup.settings)
     (twins : are_twins (map host_of gateways) ≡ true) (apart : AreMachinesApart (map host_of gateways)) (own : All (λ host. HasOwnEndpoint host.peer) (map host_of gateways)) (up_short : AreShort up)
@@ -208,10 +174,10 @@ same_pair pair relay gateways up down peer_is twins apart own up_short down_shor
   gateways = gateways_is i;
   up = up_is i;
   down = down_is i;
-  peer_is = is_prop→PathP (λ j. pair.peer ≡ relay_peer (relay_is j).setup.settings) (λ j. peer_prop pair (relay_is j)) peer_is pair.peer_is i;
-  twins = is_prop→PathP (λ j. are_twins (map host_of (gateways_is j)) ≡ true) (λ j. twins_prop (gateways_is j)) twins pair.twins i;
-  apart = is_prop→PathP (λ j. AreMachinesApart (map host_of (gateways_is j))) (λ j. apart_prop (gateways_is j)) apart pair.apart i;
-  own_endpoints = is_prop→PathP (λ j. All (λ host. HasOwnEndpoint host.peer) (map host_of (gateways_is j))) (λ j. own_prop (gateways_is j)) own pair.own_endpoints i;
-  up_short = is_prop→PathP (λ j. AreShort (up_is j)) (λ j. up_prop (up_is j)) up_short pair.up_short i;
-  down_short = is_prop→PathP (λ j. AreShortSends (down_is j)) (λ j. down_prop (down_is j)) down_short pair.down_short i;
+  peer_is = is_prop→PathP (λ j. pair.peer ≡ relay_peer (relay_is j).setup.settings) (λ j. hlevel props) peer_is pair.peer_is i;
+  twins = is_prop→PathP (λ j. are_twins (map host_of (gateways_is j)) ≡ true) (λ j. hlevel props) twins pair.twins i;
+  apart = is_prop→PathP (λ j. AreMachinesApart (map host_of (gateways_is j))) (λ j. hlevel props) apart pair.apart i;
+  own_endpoints = is_prop→PathP (λ j. All (λ host. HasOwnEndpoint host.peer) (map host_of (gateways_is j))) (λ j. hlevel props) own pair.own_endpoints i;
+  up_short = is_prop→PathP (λ j. AreShort (up_is j)) (λ j. hlevel props) up_short pair.up_short i;
+  down_short = is_prop→PathP (λ j. AreShortSends (down_is j)) (λ j. hlevel props) down_short pair.down_short i;
 }

@@ -63,8 +63,6 @@ module _ (setup : DualSetup) (lawful : IsLawfulDualSetup setup) (machine : Host)
         (numbered course.up number) (λ upward is. numbered-among course.up number upward is) (λ upward is from. timely number upward refl is from)
     stands-event (Down number) may timely = stands-delivered (numbered course.down number) (λ send is. numbered-among course.down number send is)
 
-  -- ---- schedules
-
   module _ (schedule : List DualPairEvent) where
     abbrev StandsOf : Course → Type 0
     StandsOf course = Stands sight pair machine first endpoint (IsMachineInTime setup schedule machine) (now_of course.relay) course

@@ -42,8 +42,6 @@ module _ (event : GatewayEvent) (reaches : Member → Bool) (course : Course) wh
   pub no_machine_part : NonePasses reaches course.members → machine_parts event (filter reaches course.members) ≡ []
   no_machine_part none = ap (machine_parts event) (filter_none reaches course.members none)
 
--- ---- a delivery to a gateway
-
 -- what it comes to at both machines
 pub record AreDelivered (setup : PairSetup) (course : Course) (send : OneSend) (place : ℕ) (v4 v6 : Member) : Type 0 where
   pub reached : with_member_event (delivery_down setup send) (takes_delivery setup course.members send) course ≡ with_twins_at course (delivery_down setup send) place v4 v6

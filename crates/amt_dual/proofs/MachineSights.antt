@@ -1,8 +1,6 @@
 -- A course as it is seen of one machine of a dual gateway: its own datagrams, and of the accepted log what is of its family.
 use Rattle.{std.proofs.{Common.{◌≡◌, ℕ, ◌⊎◌, ◌&&◌, Bool, true, false, cond, if◌then◌else◌, List, [], ◌∷◌, reverse, All, Option, Some, None, refl, sym, ap, subst, ◌∙◌, inl, inr}, lemmas.{Bool.{and_cases, and_parts, and_right, cases_Bool, cond-false, cond-true, false_from_ne_true, or_parts, true≢false}, List.{Elements.{All-filter, All-head, filter_agree}, Folds.{list_any_none}}, Map.Views.{tells_apart}}}, amt_values.{specs.{EndpointValue.{EndpointValue}, Group.{is_forwardable}, declared.address.Ip.{Ip, TheVariants.{V4, V6}}}, proofs.Orders.{ip_order-exact}}, source_filter.specs.declared.record.Record.{Record}, endpoint_membership.specs.{EndpointGroup.{same_endpoint, same_group}, Log.{brought, on_group, records_at}, declared.change.Change.{Change, TheVariants.{Clear, Mark, Reported}}}, gateway_machine.specs.{Answers.{same_peer}, Laws.{last_of}}, relay_machine.specs.Updates.{forwardable_records}, amt_pair.specs.{Entries.{is_change_of}, Schedule.{Entry, Upward}, Sent.{SentReport, report_of}, Setup.{Host}}, amt_pair.proofs.{HeardQueries.{same_peer-is, same_peer-itself}, RelayEntries.{IsSightAt}, Sights.{ShowsGroup, Sight, is_seen_of, report_seen}, ToldReports.{IsLastSeen}, TunnelEntries.{in_group, reported-here}, Upwards.{IsOnFamily, IsUpward}}, amt_dual.{specs.{Agreement.{IsLastOfFamily, is_of_family_at, is_of_machine}, Answers.{is_machine}, Family.{concerns_family, is_group_of, names_family}}, proofs.TwinPlaces.{machine-is}}}
 
--- ---- families
-
 -- a group is of one family
 other-group : (v6 other : Bool) (group : Ip) → is_machine v6 other ≡ false → is_group_of other group ≡ true → is_group_of v6 group ≡ false
 other-group true true group apart own = absurd cc
@@ -32,8 +30,6 @@ unnamed-none v6 group (first ∷ more) own none =
     let apart = false_from_ne_true (same_group group first.group)
     (λ same. true≢false (sym own ∙ ap (is_group_of v6) (tells_apart ip_order-exact group first.group same) ∙ parts.0)) in
     cond-false (same_group group first.group) (first ∷ on_group group more) (on_group group more) apart ∙ unnamed-none v6 group more own parts.1
-
--- ---- what a machine sees
 
 -- the entry as it is where it concerns the family, else a mark of its moment
 abbrev pub seen_by : Bool → Change → Change
@@ -103,8 +99,6 @@ module _ (machine : Host) (endpoint : EndpointValue) where
     others = said-others;
   }
 
-  -- ---- groups of the family
-
   nothing-said : (group : Ip) → is_group_of v6 group ≡ true → (change : Change) → concerns_family v6 change ≡ false → records_at (in_group endpoint group) change ≡ []
   nothing-said group own (Reported other records at) none =
       ap (λ (said : List Record). cond (same_endpoint endpoint other) (reverse said) []) (unnamed-none v6 group records own none)
@@ -122,8 +116,6 @@ module _ (machine : Host) (endpoint : EndpointValue) where
             ap said (cond-false (concerns_family v6 change) change (Mark (brought change)) other)
             ∙ sym (nothing-said group own change other)
       ]
-
-  -- ---- the last entry
 
   and-true : (test : Bool) → (test && true) ≡ test
   and-true true = refl

@@ -8,8 +8,6 @@ AreOther one other = peer_and_family one ≢ peer_and_family other
 other-peer : (one other : Host) (peer later : Peer) → one.peer ≡ peer → other.peer ≡ later → peer ≢ later → AreOther one other
 other-peer one other peer later here there apart = λ same. apart (sym here ∙ ap (λ (key : Peer × Bool). key.0) same ∙ there)
 
--- ---- what holds of both machines of each gateway
-
 module _ (settings : Settings) where
   pub each-machine : (Fact : Host → Type 0) (hosts : List DualHost) → All (λ host. Fact (machine_of settings false host) × Fact (machine_of settings true host)) hosts
       → All Fact (flat_map (machines_of settings) hosts)
@@ -28,8 +26,6 @@ module _ (settings : Settings) where
       (All-weaker IsDualHost (λ host. IsHost settings (machine_of settings false host) × IsHost settings (machine_of settings true host))
       (λ host is. (record { peer = is.peer; source = refl; settings_are = refl }, record { peer = is.peer; source = refl; settings_are = refl })) hosts lawful)
 
-  -- ---- no two machines have one peer and one family
-
   pub machines-apart : (hosts : List DualHost) → AllPairs (λ one other. one.peer ≢ other.peer) hosts → AllPairs AreOther (flat_map (machines_of settings) hosts)
   machines-apart [] apart = λ i j d low within. absurd (omega arith)
   machines-apart (host ∷ more) apart =
@@ -45,8 +41,6 @@ module _ (settings : Settings) where
       AllPairs-cons AreOther v4 (v6 ∷ rest) (All-cons (AreOther v4) v6 rest (λ same. let families : false ≡ true = ap (λ (key : Peer × Bool). key.1) same in absurd cc) (away v4 refl))
       (AllPairs-cons AreOther v6 rest (away v6 refl)
       (machines-apart more (λ i j d low within. apart (suc i) (suc j) d (omega arith) (omega arith))))
-
--- ---- the one machine of a peer and a family
 
 -- it is its own
 pub machine-own : (machine : Host) → (same_peer machine.peer machine.peer && is_machine machine.settings.v6 machine.settings.v6) ≡ true
@@ -74,8 +68,6 @@ alone-first hosts machine apart among =
         apart_back host_at AreOther (map at_first hosts)
         (subst (AllPairs AreOther) (sym (start_machines hosts)) apart) i j d low high
         (sym (machine-key machine (get_or (map at_first hosts) i d).host one) ∙ machine-key machine (get_or (map at_first hosts) j d).host other)
-
--- ---- events of a family
 
 filter-of : (one other : GatewaySettings) (filter : FilterValue) → one.v6 ≡ other.v6 → IsFilterOf one filter → IsFilterOf other filter
 filter-of one other filter same is = record {

@@ -1,8 +1,6 @@
 -- The machines of dual gateways: the one that is found is the IPv4 one, and the IPv6 one follows it; and they are apart.
 use Rattle.{std.{proofs.{Common.{◌≡◌, ◌≢◌, ℕ, zero, suc, ◌<◌, ◌||◌, ◌&&◌, not, Bool, true, false, HoldsAt, List, [], ◌∷◌, ◌++◌, map, length, get_or, All, Contains, Option, Some, IfSome, refl, sym, ap, ◌∙◌, subst, subst₂, arith, true≢false, inl, inr}, lemmas.{Bool.{and_from, and_parts, cases_order, not-true, not_from_false, or_left, or_right}, List.{get_or_default, get_or-map, length-map, Folds.{list_any_at}}}}, specs.{Cmp.{nat_eq_equiv, Lexicographic.{lists_equiv, same_text}}, List.{AllWithin}}}, amt_values.specs.{Endpoint.{endpoint_of}, EndpointValue.{EndpointValue}, declared.peer.Peer.{Peer}}, gateway_machine.specs.{Answers.{same_peer}, Runs.{settings_of}}, socket_merge.specs.History.{same_name}, amt_pair.{specs.{Members.{AreMembersAt, host_of}, OwnEndpoints.{HasOwnEndpoint}, Schedule.{Member, has_name, is_at, is_endpoint}, Setup.{Host, has_taken}, declared.gateways.NamedGateway.{NamedGateway}}, proofs.{Alone.{PassesOnce}, HeardQueries.{same_peer-is, same_peer-itself}, HostsApart.{apart_back, peers_at}, MembersAt.{are_at, host_at, host_is, lengths_are}}}, amt_dual.{specs.{Answers.{is_machine}, Schedule.{is_called}, Twins.{AreMachinesApart, are_of_one, are_twins, name_and_family, peer_and_family}}, proofs.SideBySide.{holds_map, two_apart}}}
 
--- ---- twins
-
 -- what machines of one gateway are
 module _ (v4 v6 : Host) (twins : are_of_one v4 v6 ≡ true) where
   both_of : ((not v4.settings.v6 && v6.settings.v6) ≡ true) × ((same_name v4.name v6.name && same_peer v4.peer v6.peer) ≡ true)
@@ -143,8 +141,6 @@ machines_at test alike gateways members place are at found =
       second = sym (alike one.member.host other.member.host twins) ∙ first;
     }
 
--- ---- apart
-
 pub machine-is : (named v6 : Bool) → is_machine named v6 ≡ true → named ≡ v6
 machine-is true v6 is = sym is
 machine-is false v6 is = sym (not-true v6 is)
@@ -191,8 +187,6 @@ one-machine machines one other apart (i, low, here) (j, high, there) names kinds
       | inr (inl before) ↦ absurd (apart.names i j one before high (ap name_and_family here ∙ same ∙ ap name_and_family (sym again)))
       | inr (inr later) ↦ absurd (apart.names j i one later low (ap name_and_family again ∙ sym same ∙ ap name_and_family (sym here)))
     ]
-
--- ---- one more gateway
 
 pub twins_more : (hosts : List Host) (v4 v6 : Host) → are_twins hosts ≡ true → are_of_one v4 v6 ≡ true → are_twins (hosts ++ v4 ∷ v6 ∷ []) ≡ true
 twins_more [] v4 v6 twins new = and_from (are_of_one v4 v6) true new refl

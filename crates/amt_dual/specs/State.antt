@@ -1,10 +1,10 @@
 -- What a pair of both ends with dual gateways stands for.
 use Rattle.std.specs.Prelude.{◌≡◌, ◌<◌, ◌+◌, ℕ, true, List, [], ◌∷◌, get_or, length, map, take, All, if◌then◌else◌}
 use Rattle.gateway_machine.specs.declared.event.GatewayEvent.{GatewayEvent, TheVariants.{Moment as Passes}}
-use Rattle.relay_machine.specs.{Answers.{RelayAt}, declared.event.Event.TheVariants.{Moment}}
+use Rattle.relay_machine.specs.{Answers.{RelayAt}, declared.{event.Event.TheVariants.{Moment}, relay.Relay.{Relay}}}
 use Rattle.amt_pair.specs.{Members.{AreMembersAt, host_of, kept_upward}, Parts.{relay_step}, Schedule.{Course, Member, answer_at}, Setup.{Host, PairSetup}, State.{moment_reached, with_member_at}}
 use Rattle.amt_dual.specs.{Answers.{is_ignored}, Parts.{machine_part, machine_parts}, Schedule.{IsDualPairEvent, dual_course_of}, Setup.{DualSetup, IsLawfulDualSetup, machines_in}, Twins.{are_of_one}}
-use Rattle.amt_dual.specs.declared.{event.DualPairEvent.{DualPairEvent, TheVariants.{Moment as MomentForAll}}, pair.DualPair.{DualPair}, step.DualPart.{DualPart, TheVariants.{Relay}}}
+use Rattle.amt_dual.specs.declared.{event.DualPairEvent.{DualPairEvent, TheVariants.{Moment as MomentForAll}}, pair.DualPair.{DualPair}, step.DualPart.{DualPart, TheVariants.{Relay as RelayPart}}}
 
 -- the machines of the gateways, in the order in which they were added
 abbrev pub machines : DualPair → List Host
@@ -30,6 +30,10 @@ After pair Fact = (setup : DualSetup) (schedule : List DualPairEvent) → DualPa
 -- a fact of a setup and a course holds of all those for which the pair stands
 abbrev pub ForCourse : DualPair → (PairSetup → Course → Type 0) → Type 0
 ForCourse pair Fact = (setup : PairSetup) (course : Course) → StandsFor pair setup course → Fact setup course
+
+-- and of those in which the relay alone is where the course leaves it
+abbrev pub ForRelay : Relay → (PairSetup → Course → Type 0) → Type 0
+ForRelay relay Fact = (setup : PairSetup) (course : Course) → RelayAt relay setup.settings setup.secret course.relay → Fact setup course
 
 -- and of the machines of one gateway, at a place and after it
 abbrev pub ForTwins : DualPair → ℕ → (PairSetup → Course → Member → Member → Type 0) → Type 0
@@ -60,7 +64,7 @@ sent_down pair = length pair.down
 pub record IsStarved (setup : PairSetup) (course : Course) (at : ℕ) (pair : DualPair) (parts : List DualPart) : Type 0 where
   pub count : ℕ
   pub some : count < length course.members
-  pub parts_are : parts ≡ Relay (relay_step setup course (Moment at)) ∷ machine_parts (Passes at) (take count course.members)
+  pub parts_are : parts ≡ RelayPart (relay_step setup course (Moment at)) ∷ machine_parts (Passes at) (take count course.members)
   pub stands : StandsFor pair setup (moment_reached setup course at count)
 
 -- the event is a moment that was stopped on its way

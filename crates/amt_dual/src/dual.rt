@@ -1,6 +1,8 @@
 //! A gateway of both families: two machines on one socket. It knows no message.
 
-ghost use Rattle.std.specs.Prelude.{◌≡◌, true};
+ghost use Rattle.std.specs.Prelude.{◌≡◌, ◌++◌, ◌∷◌, [], true, IfOk, OnErr};
+ghost use Rattle.amt_pair.specs.Parts.{gateway_step};
+ghost use Rattle.gateway_machine.specs.{Events.{IsEventOf}, Outcomes.{IsRefused}, Runs.{After, GatewayAt, answer_after, settings_of}, declared.event.GatewayEvent.TheVariants.{Moment as Passes}};
 ghost use Rattle.amt_dual.specs.Answers.{is_ignored, nonce_for};
 
 use crate::event::DualEvent;
@@ -105,16 +107,15 @@ impl Dual {
         ensures err { OnErr result (self.new ≡ self.old) }
         ensures same { IfOk result (λ step. HaveRefused step → self.new ≡ self.old) }
     {
-        let event = GatewayEvent::Moment(*at);
-        let v4 = Some(self.v4.step(alloc, &event)?);
-        match self.v6.step(alloc, &event) {
-            Ok(step) => Ok(DualStep {
-                v4,
-                v6: Some(step),
+        let v4 = pass_at(&mut self.v4, alloc, at)?;
+        match pass_at(&mut self.v6, alloc, at) {
+            Ok(v6) => Ok(DualStep {
+                v4: Some(v4),
+                v6: Some(v6),
                 starved: false,
             }),
             Err(_) => Ok(DualStep {
-                v4,
+                v4: Some(v4),
                 v6: None,
                 starved: true,
             }),
@@ -139,7 +140,10 @@ impl Dual {
         ensures same { IfOk result (λ step. HaveRefused step → self.new ≡ self.old) }
     {
         let bytes = Bytes::copied(alloc, bytes)?;
-        self.take_heard(alloc, &GatewayEvent::Datagram { from: *from, bytes })
+        let event = GatewayEvent::Datagram { from: *from, bytes };
+        let step = self.take_heard(alloc, &event);
+        drop(event);
+        step
     }
 
     // The datagram of this event does. Apart from the copy, so that it isn't alive where a step ends early.
@@ -154,7 +158,7 @@ impl Dual {
         ensures err { OnErr result (self.new ≡ self.old) }
         ensures same { IfOk result (λ step. HaveRefused step → self.new ≡ self.old) }
     {
-        let v4 = self.v4.step(alloc, event)?;
+        let v4 = take_at(&mut self.v4, alloc, event)?;
         if !was_ignored(&v4) {
             return Ok(DualStep {
                 v4: Some(v4),
@@ -162,7 +166,7 @@ impl Dual {
                 starved: false,
             });
         }
-        let v6 = self.v6.step(alloc, event)?;
+        let v6 = take_at(&mut self.v6, alloc, event)?;
         Ok(DualStep {
             v4: Some(v4),
             v6: Some(v6),
@@ -189,14 +193,14 @@ impl Dual {
         ensures same { IfOk result (λ step. HaveRefused step → self.new ≡ self.old) }
     {
         if v6 {
-            let step = self.v6.step(alloc, event)?;
+            let step = take_at(&mut self.v6, alloc, event)?;
             Ok(DualStep {
                 v4: None,
                 v6: Some(step),
                 starved: false,
             })
         } else {
-            let step = self.v4.step(alloc, event)?;
+            let step = take_at(&mut self.v4, alloc, event)?;
             Ok(DualStep {
                 v4: Some(step),
                 v6: None,
@@ -211,6 +215,40 @@ fn nonce6(nonce: u32) -> u32
     ensures { result ≡ nonce_for nonce true }
 {
     nonce.wrapping_add(NONCES_APART)
+}
+
+// A machine takes one event.
+fn take_at(
+    machine: &mut Gateway,
+    alloc: Global,
+    event: &GatewayEvent,
+) -> Result<GatewayStep, AllocError>
+    requires { IsEventOf (settings_of machine.old) event.now }
+    ensures step { After machine.old (λ settings first events. IfOk result (λ step.
+        step ≡ gateway_step (answer_after settings first events event.now))) }
+    ensures next { After machine.old (λ settings first events. IfOk result (λ _.
+        GatewayAt machine.new settings first (events ++ event.now ∷ []))) }
+    ensures settings { settings_of machine.new ≡ settings_of machine.old }
+    ensures err { OnErr result (machine.new ≡ machine.old) }
+    ensures same { IfOk result (λ step. IsRefused step.outcome → machine.new ≡ machine.old) }
+{
+    machine.step(alloc, event)
+}
+
+// A machine hears of a moment.
+fn pass_at(machine: &mut Gateway, alloc: Global, at: &Moment) -> Result<GatewayStep, AllocError>
+    ensures step { After machine.old (λ settings first events. IfOk result (λ step.
+        step ≡ gateway_step (answer_after settings first events (Passes at.now)))) }
+    ensures next { After machine.old (λ settings first events. IfOk result (λ _.
+        GatewayAt machine.new settings first (events ++ Passes at.now ∷ []))) }
+    ensures settings { settings_of machine.new ≡ settings_of machine.old }
+    ensures err { OnErr result (machine.new ≡ machine.old) }
+    ensures same { IfOk result (λ step. IsRefused step.outcome → machine.new ≡ machine.old) }
+{
+    let event = GatewayEvent::Moment(*at);
+    let step = take_at(machine, alloc, &event);
+    drop(event);
+    step
 }
 
 // Whether a datagram was ignored.

@@ -9,6 +9,7 @@
 #![tactic(auto)]
 
 mod agreement;
+mod at_relay;
 mod dual;
 mod event;
 mod laws;

@@ -1,19 +1,18 @@
 //! Both ends on a schedule, with gateways of both families. It knows no message: the ends alone do.
 
-ghost use Rattle.std.{specs.Prelude.{◌≡◌, true, map, All, IfOk, None as NoRelay}, proofs.Props.{props}};
+ghost use Rattle.std.{specs.Prelude.{◌≡◌, false, true, map, All, IfOk, None as NoRelay}, proofs.Props.{props}};
 ghost use Rattle.group_records.specs.Written.{is_of_family};
 ghost use Rattle.relay_machine.specs.declared.settings.Settings.{Settings as RelaySettings};
 ghost use Rattle.socket_merge.specs.FullReport.{family_by};
 ghost use Rattle.amt_pair.specs.{Setup.{amt_port, relay_peer}, Members.{AreMembersAt, AreShort, AreShortSends, IsMemberAt, host_of}, OwnEndpoints.{HasOwnEndpoint}};
 ghost use Rattle.amt_dual.specs.{InTurn.{is_ignored_part}, Schedule.{at_first}, Setup.{machines_of}, Twins.{AreMachinesApart, are_twins}};
 
+use crate::at_relay::{pass, take_event};
 use crate::event::DualPairEvent;
 use crate::parts::{part_of, push_in_turn};
 use crate::ranges::dual_event_fits;
 use crate::step::{DualPairStep, DualPart, DualParts};
-use amt_pair::{
-    DownDatagrams, Gateways, NamedGateway, Part, UpDatagrams, keep_copies, peer_fits, settings_fit,
-};
+use amt_pair::{DownDatagrams, Gateways, NamedGateway, Part, UpDatagrams, peer_fits, settings_fit};
 use amt_values::{AMT_PORT, Bytes, Endpoint, Ip, Moment, Peer};
 use endpoint_membership::Rows;
 use gateway_machine::{Gateway, GatewayEvent, GatewayOutcome, GatewaySettings};
@@ -179,10 +178,10 @@ impl DualPair {
         dual_event_fits(event);
         match event {
             DualPairEvent::Moment(at) => self.take_moment(alloc, at),
-            DualPairEvent::Rotate(secret) => self.take_at_relay(alloc, &Event::Rotate(*secret)),
+            DualPairEvent::Rotate(secret) => self.take_owned(alloc, Event::Rotate(*secret)),
             DualPairEvent::Packet { bytes } => {
                 let bytes = Bytes::copied(alloc, bytes.as_slice())?;
-                self.take_at_relay(alloc, &Event::Packet { bytes })
+                self.take_owned(alloc, Event::Packet { bytes })
             }
             DualPairEvent::Socket { name, v6, event } => {
                 self.take_call(alloc, name.as_slice(), *v6, event)
@@ -221,10 +220,27 @@ impl DualPair {
         ensures err { ForCourse self.old (λ setup course. OnErr result (self.new ≡ self.old)) }
     {
         let mut parts = Vec::with_capacity(alloc, 1)?;
-        let step = self.relay.step(alloc, event)?;
-        keep_copies(alloc, step.sends.as_slice(), &mut self.down)?;
+        let step = take_event(&mut self.relay, alloc, event, &mut self.down)?;
         parts.push_reserved(DualPart::Relay(step));
         Ok(self.step_of(parts, false))
+    }
+
+    // The same of an event that nobody needs any more.
+    fn take_owned(&mut self, alloc: Global, event: Event) -> Result<DualPairStep, AllocError>
+        requires { IsEvent (relay_settings_of self.old.relay) event }
+        ensures parts { ForCourse self.old (λ setup course. IfOk result (λ step.
+            step.parts ≡ RelayPart (relay_step setup course event) ∷ [])) }
+        ensures next { ForCourse self.old (λ setup course. (by : Option Upward) → IfOk result (λ _.
+            StandsFor self.new setup (with_relay_event setup by event course))) }
+        ensures all { IfOk result (λ step. step.starved ≡ false) }
+        ensures up { IfOk result (λ step. step.up ≡ sent_up self.new) }
+        ensures down { IfOk result (λ step. step.down ≡ sent_down self.new) }
+        ensures hosts { machines self.new ≡ machines self.old }
+        ensures err { ForCourse self.old (λ setup course. OnErr result (self.new ≡ self.old)) }
+    {
+        let step = self.take_at_relay(alloc, &event);
+        drop(event);
+        step
     }
 
     // A moment comes to the relay, and then to each machine.
@@ -242,7 +258,7 @@ impl DualPair {
     {
         let mut parts = Vec::with_capacity(alloc, 1 + self.gateways.len())?;
         let mut machines_parts = Vec::with_capacity(alloc, self.gateways.len())?;
-        let step = self.relay.step(alloc, &Event::Moment(*at))?;
+        let step = pass(&mut self.relay, alloc, at)?;
         parts.push_reserved(DualPart::Relay(step));
         let came_to_all = self
             .gateways
@@ -327,7 +343,7 @@ impl DualPair {
         };
         let bytes = Bytes::copied(alloc, datagram.bytes.as_slice())?;
         let from = datagram.from;
-        self.take_at_relay(alloc, &Event::Datagram { bytes, from })
+        self.take_owned(alloc, Event::Datagram { bytes, from })
     }
 
     // The gateway that it is for takes the datagram of this number that the relay sent.
@@ -353,7 +369,9 @@ impl DualPair {
             from: self.peer,
             bytes,
         };
-        self.deliver_at(alloc, place, &event)
+        let step = self.deliver_at(alloc, place, &event);
+        drop(event);
+        step
     }
 
     // A delivery comes to the IPv4 machine at this place, and where that one ignores it, to the IPv6 machine

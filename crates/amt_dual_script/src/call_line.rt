@@ -58,6 +58,9 @@ pub fn read_call(
             v6: is_v6(family),
             event,
         }),
-        Err(_) => Err(LineError::Memory),
+        Err(_) => {
+            drop(event);
+            Err(LineError::Memory)
+        }
     }
 }

@@ -1,18 +1,21 @@
 //! Scripts of dual gateways as a kind of script. It knows no line of theirs.
 
-ghost use Rattle.std.specs.Prelude.{◌≤◌, length, IfOk, IfErr};
+ghost use Rattle.std.specs.{Prelude.{◌≤◌, ◌∷◌, [], length, IfOk, IfErr}, List.{AllByRecursion}};
+ghost use Rattle.amt_values.specs.Conditions.{First};
+ghost use Rattle.amt_script.specs.{Fault.{FailsAtEnd}, Reading.{IsAllowed}, Settling.{Settles}};
+ghost use Rattle.relay_machine.specs.Settings.{AreLawfulSettings};
 ghost use Rattle.script_lines.specs.Script.{IsErrorOf, RulesOutScripts, HasOneScript, HasOneFault};
 ghost use Rattle.amt_dual_script.specs.{Running.{IsRunnable}, Script.{IsDualScript, dual_kind}};
 
 use crate::line::read_statement;
 use crate::script::{DualGateways, DualItems, DualScript};
 use crate::statement::DualStatement;
-use amt_script::{Setting, settle};
+use amt_script::{Setting, Settled, settle};
 use script_lines::{LineError, Reason, ScriptError, ScriptKind, read_script};
 use std::alloc::Global;
 
 /// What the lines of a script of dual gateways have said so far.
-#[derive(Debug, Drop)]
+#[derive(Drop)]
 struct DualLines {
     given: Vec<Setting>,
     gateways: DualGateways,
@@ -64,19 +67,33 @@ impl ScriptKind for DualLines {
     }
 
     fn finish(self) -> Result<DualScript, Reason> {
-        let Some(settled) = settle(self.given.as_slice()) else {
-            return Err(Reason::Missing);
-        };
-        if !settled.settings.lawful() {
-            return Err(Reason::Range);
+        match settled_of(self.given.as_slice()) {
+            Ok(settled) => Ok(DualScript {
+                settings: settled.settings,
+                secret: settled.secret,
+                gateways: self.gateways,
+                items: self.items,
+            }),
+            Err(reason) => Err(reason),
         }
-        Ok(DualScript {
-            settings: settled.settings,
-            secret: settled.secret,
-            gateways: self.gateways,
-            items: self.items,
-        })
     }
+}
+
+// What the settings set, where a relay may be set up with it.
+fn settled_of(given: &[Setting]) -> Result<Settled, Reason>
+    ensures made { AllByRecursion IsAllowed given.now
+        → IfOk result (λ settled. Settles given.now settled.settings settled.secret) }
+    ensures lawful { IfOk result (λ settled. AreLawfulSettings settled.settings) }
+    ensures bad { AllByRecursion IsAllowed given.now
+        → IfErr result (First (FailsAtEnd given.now) (Reason.Missing ∷ Reason.Range ∷ [])) }
+{
+    let Some(settled) = settle(given) else {
+        return Err(Reason::Missing);
+    };
+    if !settled.settings.lawful() {
+        return Err(Reason::Range);
+    }
+    Ok(settled)
 }
 
 /// Reads a script of dual gateways, of at most 16,777,216 octets.

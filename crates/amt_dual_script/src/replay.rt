@@ -148,7 +148,10 @@ fn set_up(alloc: Global, script: &DualScript) -> Result<DualPair, AllocError>
         let name = gateway.name.as_slice();
         match pair.add(alloc, name, gateway.peer, gateway.source4, gateway.source6) {
             Ok(()) => {}
-            Err(DualFault::Memory) => return Err(AllocError),
+            Err(DualFault::Memory) => {
+                drop(pair);
+                return Err(AllocError);
+            }
             // No two gateways of a script have one name or one peer.
             Err(DualFault::Taken) => unreachable!(),
         }

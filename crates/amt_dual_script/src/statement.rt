@@ -4,7 +4,7 @@ use crate::script::{DualGateway, DualItem};
 use amt_script::Setting;
 
 /// What a line says.
-#[derive(Debug, Drop)]
+#[derive(Drop)]
 pub enum DualStatement {
     /// A setting of the relay.
     Setting(Setting),

@@ -41,7 +41,7 @@ fn parts_named(alloc: Global, parts: DualParts) -> Result<Vec<Part>, AllocError>
 {
     let mut named = Vec::with_capacity(alloc, parts.len())?;
     for part in parts.into_vec() {
-        named.push(part_named(part)?)?;
+        named.push_reserved(part_named(part)?);
     }
     Ok(named)
 }

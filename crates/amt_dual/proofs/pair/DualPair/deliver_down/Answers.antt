@@ -22,60 +22,49 @@ returns-in_default-place_of_endpoint-clause-next c = λ setup course stands.
     if_ok_by c.absent-in_default-place_of_endpoint.result
     (record { relay = there.relay; gateways = there.gateways; up = there.up; down = there.down })
 
-pub deliver_at-requires-clause-place : goal.deliver_at-requires-clause-place
-deliver_at-requires-clause-place c =
-    let pair = c.args.self.now in
-    let place = c.in-Some-place_of_endpoint in
-    let to = c.in-Some.send.now.to in
-    let twins = first_twins (λ host. is_endpoint to (endpoint_of host.peer)) (endpoints_alike to) pair.gateways place.place pair.twins place.ensures.within place.ensures.found place.ensures.first in
-    omega (arith, twins.within, length-map pair.gateways host_of)
+pub deliver_at-step-requires-clause-place : goal.deliver_at-step-requires-clause-place
+deliver_at-step-requires-clause-place c =
+    let twins = first_twins (λ host. is_endpoint c.in-Some.send.now.to (endpoint_of host.peer)) (endpoints_alike c.in-Some.send.now.to) c.args.self.now.gateways c.in-Some-place_of_endpoint.place c.args.self.now.twins c.in-Some-place_of_endpoint.ensures.within c.in-Some-place_of_endpoint.ensures.found c.in-Some-place_of_endpoint.ensures.first in
+    omega (arith, twins.within, length-map c.args.self.now.gateways host_of)
 
-pub deliver_at-requires-clause-event : goal.deliver_at-requires-clause-event
-deliver_at-requires-clause-event c = λ settings.
+pub deliver_at-step-requires-clause-event : goal.deliver_at-step-requires-clause-event
+deliver_at-step-requires-clause-event c = λ settings.
     subst (λ (octets : List ℕ). length octets ≤ 65535) (sym (c.in_ok-bytes.ensures ∙ c.as_slice.ensures))
     (all_numbered (λ (send : OneSend). length send.bytes ≤ 65535) c.args.self.now.down c.args.number c.in-Some.send.now c.args.self.now.down_short c.in-Some.ensures)
 
 pub returns-clause-parts : goal.returns-clause-parts
 returns-clause-parts c = λ setup course stands.
-    let pair = c.args.self.now in
     let send : OneSend = c.in-Some.send.now in
-    let place = c.in-Some-place_of_endpoint in
     let found : numbered course.down c.args.number ≡ Some send =
     ap (λ (all : List OneSend). numbered all c.args.number) (sym stands.down) ∙ sym c.in-Some.ensures in
-    let from = pair.peer_is ∙ ap relay_peer stands.relay.settings_kept in
-    let delivery = is_delivery_down setup send pair.peer c.in_ok-bytes.bytes from (c.in_ok-bytes.ensures ∙ c.as_slice.ensures) in
-    let are = reached_at setup course send pair.gateways place.place stands.gateways pair.twins pair.apart pair.own_endpoints place.ensures.within place.ensures.found place.ensures.first in
-    IfOk-weaker c.deliver_at.result _ _
+    let delivery = is_delivery_down setup send c.args.self.now.peer c.in_ok-bytes.bytes (c.args.self.now.peer_is ∙ ap relay_peer stands.relay.settings_kept) (c.in_ok-bytes.ensures ∙ c.as_slice.ensures) in
+    let are = reached_at setup course send c.args.self.now.gateways c.in-Some-place_of_endpoint.place stands.gateways c.args.self.now.twins c.args.self.now.apart c.args.self.now.own_endpoints c.in-Some-place_of_endpoint.ensures.within c.in-Some-place_of_endpoint.ensures.found c.in-Some-place_of_endpoint.ensures.first in
+    IfOk-weaker c.deliver_at-step.result _ _
     (λ step is.
     is ∙ ap (λ (event : GatewayEvent). twin_parts event are.at.v4 are.at.v6) delivery
     ∙ sym (are.some c.args.number)
     ∙ dual_down_parts setup course c.args.number send (twin_parts (delivery_down setup send) are.at.v4 are.at.v6) found are.delivered.parts)
-    (c.deliver_at.ensures.parts setup course are.at.v4 are.at.v6
+    (c.deliver_at-step.ensures.parts setup course are.at.v4 are.at.v6
     (record { relay = stands.relay; gateways = stands.gateways; up = stands.up; down = stands.down }) are.at.here are.next are.at.twins)
 
 pub returns-clause-next : goal.returns-clause-next
 returns-clause-next c = λ setup course stands.
-    let pair = c.args.self.now in
     let send : OneSend = c.in-Some.send.now in
-    let place = c.in-Some-place_of_endpoint in
     let found : numbered course.down c.args.number ≡ Some send =
     ap (λ (all : List OneSend). numbered all c.args.number) (sym stands.down) ∙ sym c.in-Some.ensures in
-    let from = pair.peer_is ∙ ap relay_peer stands.relay.settings_kept in
-    let delivery = is_delivery_down setup send pair.peer c.in_ok-bytes.bytes from (c.in_ok-bytes.ensures ∙ c.as_slice.ensures) in
-    let are = reached_at setup course send pair.gateways place.place stands.gateways pair.twins pair.apart pair.own_endpoints place.ensures.within place.ensures.found place.ensures.first in
-    IfOk-weaker c.deliver_at.result _ _
+    let delivery = is_delivery_down setup send c.args.self.now.peer c.in_ok-bytes.bytes (c.args.self.now.peer_is ∙ ap relay_peer stands.relay.settings_kept) (c.in_ok-bytes.ensures ∙ c.as_slice.ensures) in
+    let are = reached_at setup course send c.args.self.now.gateways c.in-Some-place_of_endpoint.place stands.gateways c.args.self.now.twins c.args.self.now.apart c.args.self.now.own_endpoints c.in-Some-place_of_endpoint.ensures.within c.in-Some-place_of_endpoint.ensures.found c.in-Some-place_of_endpoint.ensures.first in
+    IfOk-weaker c.deliver_at-step.result _ _
     (λ step now.
-    subst (λ (after : Course). StandsFor c.deliver_at.new.self setup after)
-    (ap (λ (event : GatewayEvent). with_twins_at course event place.place are.at.v4 are.at.v6) delivery
-    ∙ dual_down_reaches setup course c.args.number send (with_twins_at course (delivery_down setup send) place.place are.at.v4 are.at.v6) found are.delivered.reached) now)
-    (c.deliver_at.ensures.next setup course are.at.v4 are.at.v6
+    subst (λ (after : Course). StandsFor c.deliver_at-step.new.self setup after)
+    (ap (λ (event : GatewayEvent). with_twins_at course event c.in-Some-place_of_endpoint.place are.at.v4 are.at.v6) delivery
+    ∙ dual_down_reaches setup course c.args.number send (with_twins_at course (delivery_down setup send) c.in-Some-place_of_endpoint.place are.at.v4 are.at.v6) found are.delivered.reached) now)
+    (c.deliver_at-step.ensures.next setup course are.at.v4 are.at.v6
     (record { relay = stands.relay; gateways = stands.gateways; up = stands.up; down = stands.down }) are.at.here are.next are.at.twins)
 
 pub returns-clause-err : goal.returns-clause-err
 returns-clause-err c = λ setup course stands.
-    let pair = c.args.self.now in
-    let place = c.in-Some-place_of_endpoint in
-    let are = reached_at setup course c.in-Some.send.now pair.gateways place.place stands.gateways pair.twins pair.apart pair.own_endpoints place.ensures.within place.ensures.found place.ensures.first in
-    on_err_also c.deliver_at.result c.deliver_at.new.self _ pair (same_pair pair pair.relay pair.gateways pair.up pair.down _ _ _ _ _ _ refl refl refl refl)
-    (c.deliver_at.ensures.err setup course are.at.v4 are.at.v6
+    let are = reached_at setup course c.in-Some.send.now c.args.self.now.gateways c.in-Some-place_of_endpoint.place stands.gateways c.args.self.now.twins c.args.self.now.apart c.args.self.now.own_endpoints c.in-Some-place_of_endpoint.ensures.within c.in-Some-place_of_endpoint.ensures.found c.in-Some-place_of_endpoint.ensures.first in
+    on_err_also c.deliver_at-step.result c.deliver_at-step.new.self _ c.args.self.now (same_pair c.args.self.now c.args.self.now.relay c.args.self.now.gateways c.args.self.now.up c.args.self.now.down _ _ _ _ _ _ refl refl refl refl)
+    (c.deliver_at-step.ensures.err setup course are.at.v4 are.at.v6
     (record { relay = stands.relay; gateways = stands.gateways; up = stands.up; down = stands.down }) are.at.here are.next are.at.twins)

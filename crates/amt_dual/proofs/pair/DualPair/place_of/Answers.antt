@@ -7,14 +7,12 @@ unwrap-first-requires c =
 
 pub returns-then-v6-clause-within : goal.returns-then-v6-clause-within
 returns-then-v6-clause-within c =
-    let found = c.place_of_name.ensures in
-    let next = next_called c.args.name.now c.args.self.now.gateways c.unwrap-first.result c.args.self.now.twins c.place_of_name.result c.unwrap-first.ensures found.within found.found found.first in
+    let next = next_called c.args.name.now c.args.self.now.gateways c.unwrap-first.result c.args.self.now.twins c.place_of_name.result c.unwrap-first.ensures c.place_of_name.ensures.within c.place_of_name.ensures.found c.place_of_name.ensures.first in
     omega (arith, next.within, c.next_place.ensures)
 
 pub returns-then-v6-clause-found : goal.returns-then-v6-clause-found
 returns-then-v6-clause-found c =
-    let found = c.place_of_name.ensures in
-    let next = next_called c.args.name.now c.args.self.now.gateways c.unwrap-first.result c.args.self.now.twins c.place_of_name.result c.unwrap-first.ensures found.within found.found found.first in
+    let next = next_called c.args.name.now c.args.self.now.gateways c.unwrap-first.result c.args.self.now.twins c.place_of_name.result c.unwrap-first.ensures c.place_of_name.ensures.within c.place_of_name.ensures.found c.place_of_name.ensures.first in
     let one_more : suc c.unwrap-first.result ≡ c.next_place.result = omega (arith, c.next_place.ensures) in
     let at : IsCalledAt c.args.name.now c.args.v6 c.args.self.now.gateways c.next_place.result =
     subst₂ (λ (v6 : Bool) (place : ℕ). IsCalledAt c.args.name.now v6 c.args.self.now.gateways place) (sym c.if-v6.true) one_more next in
@@ -22,8 +20,7 @@ returns-then-v6-clause-found c =
 
 pub returns-else-v6-clause-found : goal.returns-else-v6-clause-found
 returns-else-v6-clause-found c =
-    let found = c.place_of_name.ensures in
-    let first = first_called c.args.name.now c.args.self.now.gateways c.unwrap-first.result c.args.self.now.twins c.place_of_name.result c.unwrap-first.ensures found.within found.found found.first in
+    let first = first_called c.args.name.now c.args.self.now.gateways c.unwrap-first.result c.args.self.now.twins c.place_of_name.result c.unwrap-first.ensures c.place_of_name.ensures.within c.place_of_name.ensures.found c.place_of_name.ensures.first in
     let at : IsCalledAt c.args.name.now c.args.v6 c.args.self.now.gateways c.unwrap-first.result =
     subst (λ (v6 : Bool). IsCalledAt c.args.name.now v6 c.args.self.now.gateways c.unwrap-first.result) (sym c.if-v6.false) first in
     at.found

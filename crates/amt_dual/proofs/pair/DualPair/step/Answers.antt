@@ -3,17 +3,17 @@ use Rattle.amt_dual.proofs.pair.DualPair.step.Goals as goal
 
 pub returns-in-Rotate-clause-next : goal.returns-in-Rotate-clause-next
 returns-in-Rotate-clause-next c = λ setup course stands.
-    IfOk-weaker c.take_at_relay.result _ _
-    (λ step now full. subst (λ (event : DualPairEvent). StandsFor c.take_at_relay.new.self setup (with_dual_pair_event setup course event)) (sym c.in-Rotate.is) now)
-    (c.take_at_relay.ensures.next setup course stands None)
+    IfOk-weaker c.take_owned.result _ _
+    (λ step now full. subst (λ (event : DualPairEvent). StandsFor c.take_owned.new.self setup (with_dual_pair_event setup course event)) (sym c.in-Rotate.is) now)
+    (c.take_owned.ensures.next setup course stands None)
 
 pub returns-in_ok-bytes-in-Packet-clause-next : goal.returns-in_ok-bytes-in-Packet-clause-next
 returns-in_ok-bytes-in-Packet-clause-next c = λ setup course stands.
-    IfOk-weaker c.take_at_relay-in-Packet.result _ _
-    (λ step now full. subst (λ (event : DualPairEvent). StandsFor c.take_at_relay-in-Packet.new.self setup (with_dual_pair_event setup course event)) (sym c.in-Packet.is)
-    (subst (λ (octets : List ℕ). StandsFor c.take_at_relay-in-Packet.new.self setup (with_relay_event setup None (Packet octets) course))
+    IfOk-weaker c.take_owned-in-Packet.result _ _
+    (λ step now full. subst (λ (event : DualPairEvent). StandsFor c.take_owned-in-Packet.new.self setup (with_dual_pair_event setup course event)) (sym c.in-Packet.is)
+    (subst (λ (octets : List ℕ). StandsFor c.take_owned-in-Packet.new.self setup (with_relay_event setup None (Packet octets) course))
     (c.in_ok-bytes-in-Packet.ensures ∙ c.as_slice.ensures) now))
-    (c.take_at_relay-in-Packet.ensures.next setup course stands None)
+    (c.take_owned-in-Packet.ensures.next setup course stands None)
 
 pub returns-in-Up-clause-parts : goal.returns-in-Up-clause-parts
 returns-in-Up-clause-parts c = λ setup course stands.

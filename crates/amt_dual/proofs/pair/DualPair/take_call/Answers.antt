@@ -11,19 +11,17 @@ take_at-requires-clause-event c =
 
 pub returns-clause-parts : goal.returns-clause-parts
 returns-clause-parts c = λ setup course stands.
-    let event = c.args.event.now in
-    let called = called_one event c.args.name.now c.args.v6 c.args.self.now.gateways course c.place_of-place.result stands.gateways c.place_of-place.ensures.within c.args.self.now.apart c.place_of-place.ensures.found in
+    let called = called_one c.args.event.now c.args.name.now c.args.v6 c.args.self.now.gateways course c.place_of-place.result stands.gateways c.place_of-place.ensures.within c.args.self.now.apart c.place_of-place.ensures.found in
     let part : c.part_of.result ≡ _ =
-    c.part_of.ensures ∙ ap (part_of c.args.v6) (c.in_ok-part.ensures.part course.members called.member stands.gateways called.here) ∙ machine_part_is event c.args.v6 called.member called.family in
+    c.part_of.ensures ∙ ap (part_of c.args.v6) (c.in_ok-part.ensures.part course.members called.member stands.gateways called.here) ∙ machine_part_is c.args.event.now c.args.v6 called.member called.family in
     c.step_of.ensures.parts ∙ c.push_reserved.ensures.items ∙ (λ i. c.in_ok-parts.ensures.items i ++ part i ∷ []) ∙ sym called.one.part
 
 pub returns-clause-next : goal.returns-clause-next
 returns-clause-next c = λ setup course stands.
-    let event = c.args.event.now in
-    let called = called_one event c.args.name.now c.args.v6 c.args.self.now.gateways course c.place_of-place.result stands.gateways c.place_of-place.ensures.within c.args.self.now.apart c.place_of-place.ensures.found in
-    stands_by setup (with_member_at course event c.place_of-place.result called.member) _ _ (record {
+    let called = called_one c.args.event.now c.args.name.now c.args.v6 c.args.self.now.gateways course c.place_of-place.result stands.gateways c.place_of-place.ensures.within c.args.self.now.apart c.place_of-place.ensures.found in
+    stands_by setup (with_member_at course c.args.event.now c.place_of-place.result called.member) _ _ (record {
       relay = stands.relay;
       gateways = c.in_ok-part.ensures.next course.members called.member stands.gateways called.here;
-      up = up_more c.args.self.now.up c.take_at.new.up course.up (upwards_on event called.member) stands.up (c.in_ok-part.ensures.sent course.members called.member stands.gateways called.here);
+      up = up_more c.args.self.now.up c.take_at.new.up course.up (upwards_on c.args.event.now called.member) stands.up (c.in_ok-part.ensures.sent course.members called.member stands.gateways called.here);
       down = stands.down;
     }) (sym called.one.reached)
