@@ -79,7 +79,7 @@ def counted(asker):
 
 
 @contextlib.contextmanager
-def running(command, kind, *more, turns=None):
+def running(command, kind, *more, turns=None, report=0):
     """An end with a control socket, for as long as the block."""
     with tempfile.TemporaryDirectory() as folder:
         path = os.path.join(folder, f"{kind}.toml")
@@ -92,6 +92,7 @@ def running(command, kind, *more, turns=None):
                         "discovery": f"{ADDRESS}:{AMT_PORT}", "deliver": f"{ADDRESS}:{DELIVER}",
                         "control": f"{ADDRESS}:{GATEWAY_CONTROL}"}
             ports = [LISTEN, GATEWAY_CONTROL]
+        settings["report_seconds"] = report
         loopback.write_settings(path, settings)
         end = loopback.End([*command, kind, path, *(["--turns", str(turns)] if turns else []), *more], ADDRESS, ports)
         try:
@@ -171,6 +172,23 @@ def a_gateway_answers_each_line(command):
         ends_by(asker, end, "stop leave")
         until(lambda: of_relay.ask("show") == "", "it didn't leave")
         ends_by(of_relay, relay, "stop")
+
+
+@test
+def both_ends_write_what_has_changed(command):
+    """Each second a line of the counts that have changed goes to standard error; where none has, nothing does."""
+    with running(command, "relay", report=1) as relay, running(command, "gateway", report=1) as gateway:
+        member = Endpoint(PEER, (ADDRESS, AMT_PORT))
+        member.ask()
+        member.update([(IS_EX, GROUP, [])])
+        member.settle()
+        time.sleep(4.5)
+        for end, port, most, told in ((relay, CONTROL, 3, "updated 1"), (gateway, GATEWAY_CONTROL, 1, "delivered 0")):
+            expect(Asker(port).ask("stop") == "", "stop")
+            status, _out, err = end.wait(SOON_S)
+            lines = err.splitlines()
+            whole = all(re.fullmatch(r"amt: [1-9]\d* s:( (= )?([a-z_]+ )+\d+)+", line) for line in lines)
+            expect(status == 0 and whole and 1 <= len(lines) <= most and told in err, f"status {status}, {err!r}")
 
 
 @test

@@ -28,7 +28,7 @@ fn main(rt: HostRuntime) -> Exit {
     let mut files = HostFiles::new(rt);
     let mut out = WriterSink::new(rt.stdout());
     let mut err = WriterSink::new(rt.stderr());
-    let mut live = HostLive::new(rt, rt.alloc());
+    let mut live = HostLive::new(rt, rt.alloc(), rt.stderr());
     let words = match words(&rt) {
         Ok(words) => words,
         Err(error) if error.kind() == ErrorKind::OutOfMemory => {

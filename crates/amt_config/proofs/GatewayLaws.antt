@@ -7,7 +7,7 @@ use Rattle.socket_merge.specs.FullReport.{family_by}
 use Rattle.gateway_script.{specs.Settling.{is_v6}, proofs.Fields.{IsAddressText-unique, IsFamilyText-unique}}
 use Rattle.toml.specs.Data.{Members}
 use Rattle.amt_config.specs.declared.{config.{GatewayConfig.{GatewayConfig}, Join.{Join}}, fault.ConfigFault.{ConfigFault, TheVariants.{Memory}}}
-use Rattle.amt_config.specs.{Gateway.{GatewayConfigOf, HasGatewayValues, HasJoins, IsFaultInJoins, family_of_text, gateway_keys, port_range, table_family}, Join.{AreJoins, FailsInJoins}, Key.{HasTables, HasText, IsRight, a_text, required}, Reading.{MayFail, MayFailFirst}, Table.{IsValueFault}}
+use Rattle.amt_config.specs.{Gateway.{GatewayConfigOf, HasGatewayValues, HasJoins, IsFaultInJoins, family_of_text, gateway_keys, port_range, table_family}, Join.{AreJoins, FailsInJoins}, Key.{HasTables, HasText, IsRight, a_text, report_range, required}, Reading.{MayFail, MayFailFirst}, Table.{IsValueFault}}
 use Rattle.amt_config.proofs.{Faults.{AreRight, also, settled}, JoinLaws.{joins_or_fault, one_fault_in_joins, same_joins}, Values.{right_boolean, right_number, right_optional, right_tables, right_text, same_boolean, same_number, same_optional, same_tables, same_text}}
 
 by_text : (family : Family) → family_of_text (family_text family) ≡ Some family
@@ -41,7 +41,8 @@ right_keys table config of =
     (also (right_optional a_peer IsPeerText (λ peer text names fails. fails peer names) (codes "relay") table config.relay h.relay)
     (also (right_number (codes "port") port_range table config.port h.port)
     (also (right_boolean (codes "linux_relay") table config.linux_relay h.linux_relay)
-    (also (right_tables (codes "join") table h.joins.tables h.joins.there) tt))))))))))
+    (also (right_number (codes "report_seconds") report_range table config.report_seconds h.report)
+    (also (right_tables (codes "join") table h.joins.tables h.joins.there) tt)))))))))))
 
 same_list : (one other : Option Family) (table : Members) (joins others : List Join) → one ≡ other → HasJoins one table joins → HasJoins other table others → joins ≡ others
 same_list one other table joins others same h k =
@@ -64,6 +65,7 @@ same_values table one other h k =
       relay = same_optional IsPeerText IsPeerText-unique (codes "relay") table one.relay other.relay h.relay k.relay i;
       port = same_number (codes "port") port_range table one.port other.port h.port k.port i;
       linux_relay = same_boolean (codes "linux_relay") table one.linux_relay other.linux_relay h.linux_relay k.linux_relay i;
+      report_seconds = same_number (codes "report_seconds") report_range table one.report_seconds other.report_seconds h.report k.report i;
       joins = same_list (Some (family_by one.v6)) (Some (family_by other.v6)) table one.joins other.joins some_family h.joins k.joins i;
     }
 

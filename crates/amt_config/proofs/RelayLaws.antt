@@ -6,7 +6,7 @@ use Rattle.script_lines.{proofs.Firsts.{First-holds, First-unique}, specs.Form.{
 use Rattle.amt_script.specs.declared.kind.Key.TheVariants as words
 use Rattle.amt_script.specs.Row.{key_word, number_word}
 use Rattle.toml.specs.Data.{Data, Members, as_bool, get_member}
-use Rattle.amt_config.specs.{declared.{config.RelayConfig.{RelayConfig}, fault.ConfigFault.{ConfigFault}}, Key.{HasBoolean, HasOptional, HasWholeNumber, IsRight}, Loopback.{IsGuardedText}, Relay.{FailsTogether, HasValues, IsFaultTogether, RelayConfigOf, number_key, range_of, relay_keys, rotate_range, settings_of, table_anywhere, together_order, workers_range}, Table.{IsValueFault}}
+use Rattle.amt_config.specs.{declared.{config.RelayConfig.{RelayConfig}, fault.ConfigFault.{ConfigFault}}, Key.{HasBoolean, HasOptional, HasWholeNumber, IsRight, report_range}, Loopback.{IsGuardedText}, Relay.{FailsTogether, HasValues, IsFaultTogether, RelayConfigOf, number_key, range_of, relay_keys, rotate_range, settings_of, table_anywhere, together_order, workers_range}, Table.{IsValueFault}}
 use Rattle.amt_config.proofs.{Faults.{AreRight, also, by_else}, Guarded.{guarded_unique, right_guarded}, Values.{right_boolean, right_number, right_text, right_text_or, same_boolean, same_number, same_optional, same_text, same_text_or}}
 use Rattle.amt_config.specs.declared.fault.ConfigFault.TheVariants as faults
 
@@ -50,6 +50,7 @@ same_values table one other h k =
       secrets = numbers Secrets i;
       workers = same_number (codes "workers") workers_range table _ _ h.workers k.workers i;
       linux_gateways = same_boolean (key_word words.LinuxGateways) table _ _ h.linux_gateways k.linux_gateways i;
+      report_seconds = same_number (codes "report_seconds") report_range table _ _ h.report k.report i;
     }
 
 pub right_keys : (table : Members) (config : RelayConfig) → HasValues table config → AreRight table (relay_keys (table_anywhere table))
@@ -68,7 +69,8 @@ right_keys table config h =
     (also (right_number (codes "rotate_seconds") rotate_range table config.rotate_seconds h.rotate)
     (also (number Secrets)
     (also (right_number (codes "workers") workers_range table config.workers h.workers)
-    (also (right_boolean (key_word words.LinuxGateways) table config.linux_gateways h.linux_gateways) tt))))))))))))))))))
+    (also (right_boolean (key_word words.LinuxGateways) table config.linux_gateways h.linux_gateways)
+    (also (right_number (codes "report_seconds") report_range table config.report_seconds h.report) tt)))))))))))))))))))
 
 -- numbers that fail together aren't lawful
 more_than : (a b : ℕ) → a ≤ b → b < a → ⊥

@@ -4,7 +4,7 @@ use Rattle.amt_script.specs.declared.kind.Key.TheVariants as set
 use Rattle.amt_script.specs.Row.{key_word}
 use Rattle.gateway_script.specs.declared.kind.Key.TheVariants as set_of_gateway
 use Rattle.gateway_script.specs.Row.{key_word as gateway_word}
-use Rattle.amt_config.specs.declared.key.FileKey.{FileKey, TheVariants.{Relay, Listen, Feed, Query4, Query6, Number, RotateSeconds, Workers, LinuxGateways, Family, Deliver, Control, ControlAnywhere, Discovery, Source, Port, LinuxRelay, Join, Name, Group, Mode, Sources}}
+use Rattle.amt_config.specs.declared.key.FileKey.{FileKey, TheVariants.{Relay, Listen, Feed, Query4, Query6, Number, RotateSeconds, Workers, LinuxGateways, ReportSeconds, Family, Deliver, Control, ControlAnywhere, Discovery, Source, Port, LinuxRelay, Join, Name, Group, Mode, Sources}}
 
 abbrev pub word_of : FileKey → List ℕ
 word_of Relay = key_word set.Relay
@@ -16,6 +16,7 @@ word_of (Number key) = key_word (set.Number key)
 word_of RotateSeconds = codes "rotate_seconds"
 word_of Workers = codes "workers"
 word_of LinuxGateways = key_word set.LinuxGateways
+word_of ReportSeconds = codes "report_seconds"
 word_of Family = gateway_word set_of_gateway.Family
 word_of Deliver = codes "deliver"
 word_of Control = codes "control"

@@ -8,7 +8,7 @@ use Rattle.socket_merge.specs.FullReport.{family_by}
 use Rattle.gateway_script.specs.declared.kind.Key.TheVariants as words
 use Rattle.gateway_script.specs.{Row.{key_word}, Settling.{port_in}}
 use Rattle.toml.specs.Data.{Members, as_str}
-use Rattle.amt_config.specs.{declared.{config.{GatewayConfig.{GatewayConfig}, Join.{Join}}, fault.ConfigFault.{ConfigFault}}, Join.{AreJoins, FailsInJoins}, Key.{HasBoolean, HasOptional, HasWholeNumber, HasTables, HasText, Key, a_boolean, a_text, a_whole, optional, read_at, required, some_tables}, Table.{AreKnown, IsFirstFaultOfFile, IsFile, IsFirstFault, key_words}}
+use Rattle.amt_config.specs.{declared.{config.{GatewayConfig.{GatewayConfig}, Join.{Join}}, fault.ConfigFault.{ConfigFault}}, Join.{AreJoins, FailsInJoins}, Key.{HasBoolean, HasOptional, HasWholeNumber, HasTables, HasText, Key, a_boolean, a_text, a_whole, optional, read_at, report_range, required, some_tables}, Table.{AreKnown, IsFirstFaultOfFile, IsFile, IsFirstFault, key_words}}
 
 -- AMT's own port is the default (RFC 7450, section 7.2)
 abbrev pub port_range : NumberRange
@@ -27,6 +27,7 @@ gateway_keys family =
     ∷ optional (key_word words.Relay) (a_text a_peer)
     ∷ optional (key_word words.Port) (a_whole port_range)
     ∷ optional (key_word words.LinuxRelay) a_boolean
+    ∷ optional (codes "report_seconds") (a_whole report_range)
     ∷ optional (codes "join") some_tables
     ∷ []
 
@@ -56,6 +57,7 @@ pub record HasGatewayValues (table : Members) (config : GatewayConfig) : Type 0 
   pub relay : HasOptional (key_word words.Relay) table IsPeerText config.relay
   pub port : HasWholeNumber (key_word words.Port) port_range table config.port
   pub linux_relay : HasBoolean (key_word words.LinuxRelay) table config.linux_relay
+  pub report : HasWholeNumber (codes "report_seconds") report_range table config.report_seconds
   pub joins : HasJoins (Some (family_by config.v6)) table config.joins
 
 -- the table is a gateway's: its keys are known, and its values are these

@@ -16,6 +16,10 @@ pub data Want : Type 0 where
   some_texts : Form → Want
   some_tables : Want
 
+-- the seconds from one line of counts to the next, of either end
+abbrev pub report_range : NumberRange
+report_range = record { least = 0; most = 86400; default = 0 }
+
 -- a key, whether a file must have it, and what it wants
 pub record Key : Type 0 where
   pub word : List ℕ

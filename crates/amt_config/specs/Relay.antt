@@ -6,7 +6,7 @@ use Rattle.script_lines.specs.Form.{a_peer, an_address, an_address4, an_address6
 use Rattle.amt_script.specs.declared.kind.Key.TheVariants as words
 use Rattle.amt_script.specs.Row.{key_word, number_word}
 use Rattle.toml.specs.Data.{Members, as_bool}
-use Rattle.amt_config.specs.{declared.{config.RelayConfig.{RelayConfig}, fault.ConfigFault.{ConfigFault}}, Key.{HasBoolean, HasOptional, HasText, HasTextOr, HasWholeNumber, Key, a_boolean, a_guarded_peer, a_text, a_whole, optional, read_at, required}, Loopback.{IsGuardedText}, Table.{AreKnown, IsFirstFaultOfFile, IsFile, IsFirstFault, key_words}}
+use Rattle.amt_config.specs.{declared.{config.RelayConfig.{RelayConfig}, fault.ConfigFault.{ConfigFault}}, Key.{HasBoolean, HasOptional, HasText, HasTextOr, HasWholeNumber, Key, a_boolean, a_guarded_peer, a_text, a_whole, optional, read_at, report_range, required}, Loopback.{IsGuardedText}, Table.{AreKnown, IsFirstFaultOfFile, IsFile, IsFirstFault, key_words}}
 use Rattle.amt_config.specs.declared.fault.ConfigFault.TheVariants as faults
 
 -- the row of one of the relay's numbers
@@ -46,6 +46,7 @@ relay_keys anywhere =
     ∷ number_key Secrets
     ∷ optional (codes "workers") (a_whole workers_range)
     ∷ optional (key_word words.LinuxGateways) a_boolean
+    ∷ optional (codes "report_seconds") (a_whole report_range)
     ∷ []
 
 -- whether the table says that a control socket may be anywhere
@@ -80,6 +81,7 @@ pub record HasValues (table : Members) (config : RelayConfig) : Type 0 where
   pub rotate : HasWholeNumber (codes "rotate_seconds") rotate_range table config.rotate_seconds
   pub workers : HasWholeNumber (codes "workers") workers_range table config.workers
   pub linux_gateways : HasBoolean (key_word words.LinuxGateways) table config.linux_gateways
+  pub report : HasWholeNumber (codes "report_seconds") report_range table config.report_seconds
 
 -- the table is a relay's: its keys are known, its values are these, and together a relay may have them
 pub record RelayConfigOf (table : Members) (config : RelayConfig) : Type 0 where

@@ -40,6 +40,8 @@ pub struct RelayConfig {
     pub workers: u32,
     /// Whether the relay serves Linux's own gateways too.
     pub linux_gateways: bool,
+    /// The least seconds from one line of counts on standard error to the next; with 0 there is none.
+    pub report_seconds: u32,
 }
 
 impl RelayConfig {
@@ -98,5 +100,7 @@ pub struct GatewayConfig {
     pub port: u16,
     /// Whether the relay is Linux's own.
     pub linux_relay: bool,
+    /// The least seconds from one line of counts on standard error to the next; with 0 there is none.
+    pub report_seconds: u32,
     pub joins: Joins,
 }

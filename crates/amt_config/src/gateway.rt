@@ -13,7 +13,7 @@ use crate::flags::flag_at;
 use crate::forms::{AddressOf, FamilyWord, Place};
 use crate::joins::read_joins;
 use crate::key::FileKey;
-use crate::numbers::number_at;
+use crate::numbers::{REPORT_SECONDS, number_at};
 use crate::table::{TableKind, check_keys, read_table};
 use crate::texts::{optional, required};
 use amt_values::AMT_PORT;
@@ -53,6 +53,7 @@ fn read_of_family(
     let relay = optional(alloc, table, FileKey::Relay, &Place)?;
     let port = number_at(alloc, table, FileKey::Port, PORT)?;
     let linux_relay = flag_at(alloc, table, FileKey::LinuxRelay)?;
+    let report_seconds = number_at(alloc, table, FileKey::ReportSeconds, REPORT_SECONDS)?;
     let items = tables_at(alloc, table, FileKey::Join)?;
     let joins = match read_joins(alloc, family, items) {
         Ok(joins) => joins,
@@ -68,6 +69,7 @@ fn read_of_family(
         relay,
         port: port as u16,
         linux_relay,
+        report_seconds,
         joins,
     })
 }

@@ -1,4 +1,4 @@
-//! Keys whose values are whole numbers. It knows no key.
+//! Keys whose values are whole numbers, and the range that both ends have. It knows no key.
 
 ghost use Rattle.std.specs.{Prelude.{◌≡◌, IfOk, IfErr, IfSome, IfNone, OnOk, pos}, Int.{IsInRange}};
 ghost use Rattle.toml.specs.View.{table_view};
@@ -10,6 +10,13 @@ use crate::table::value_at;
 use relay_machine::NumberRange;
 use std::alloc::Global;
 use toml::Table;
+
+/// The seconds from one line of counts to the next; with 0 there is none.
+pub const REPORT_SECONDS: NumberRange = NumberRange {
+    least: 0,
+    most: 86_400,
+    default: 0,
+};
 
 /// The number of a key, which is in the range, or its default where the key isn't there.
 pub fn number_at(

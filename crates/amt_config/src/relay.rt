@@ -13,7 +13,7 @@ use crate::flags::flag_at;
 use crate::forms::{Address, Address4, Address6, Place};
 use crate::key::FileKey;
 use crate::loopback::guarded_at;
-use crate::numbers::number_at;
+use crate::numbers::{REPORT_SECONDS, number_at};
 use crate::table::{TableKind, check_keys, read_table};
 use crate::texts::{required, value_or};
 use amt_values::Peer;
@@ -81,6 +81,7 @@ fn read_values(alloc: Global, table: &Table) -> Result<RelayConfig, ConfigFault>
         secrets: number_of(alloc, table, NumberKey::Secrets)?,
         workers: number_at(alloc, table, FileKey::Workers, WORKERS)?,
         linux_gateways: flag_at(alloc, table, FileKey::LinuxGateways)?,
+        report_seconds: number_at(alloc, table, FileKey::ReportSeconds, REPORT_SECONDS)?,
     })
 }
 

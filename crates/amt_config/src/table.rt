@@ -42,7 +42,8 @@ fn is_relay_key(name: &str) -> bool
         "query4" | "query6" => true,
         "robustness" | "query_seconds" | "response_tenths" => true,
         "endpoints" | "groups" | "sources" | "packet_limit" => true,
-        "rotate_seconds" | "secrets" | "workers" | "linux_gateways" => true,
+        "rotate_seconds" | "secrets" | "workers" => true,
+        "linux_gateways" | "report_seconds" => true,
         _ => false,
     }
 }
@@ -52,7 +53,7 @@ fn is_gateway_key(name: &str) -> bool
 {
     match name {
         "family" | "listen" | "deliver" | "control" | "discovery" | "source" => true,
-        "relay" | "port" | "linux_relay" | "join" => true,
+        "relay" | "port" | "linux_relay" | "report_seconds" | "join" => true,
         _ => false,
     }
 }

@@ -1,5 +1,5 @@
 -- Answers to control lines: a text in pieces, a datagram each, and a line after the last one.
-use Rattle.std.specs.{Prelude.{◌≡◌, ◌≤◌, ◌<◌, ℕ, ◌-◌, ◌==◌, ◌||◌, Bool, not, nat_eq, List, [], ◌∷◌, ◌++◌, length, take, drop, map, codes, if◌then◌else◌}, List.{starts_with, suffix_len}}
+use Rattle.std.specs.{Prelude.{◌≡◌, ◌≤◌, ◌<◌, ℕ, ◌-◌, ◌==◌, ◌||◌, Bool, true, false, not, nat_eq, List, [], ◌∷◌, ◌++◌, length, take, drop, map, codes, if◌then◌else◌}, List.{starts_with, suffix_len}}
 use Rattle.amt_values.specs.declared.peer.Peer.{Peer}
 use Rattle.amt_ports.specs.{Devices.{LinkSeen}, Tried.{HasTried}}
 use Rattle.script_lines.specs.{Texts.{closing_text, reason_word}, declared.reason.Reason.{Reason}}
@@ -48,8 +48,20 @@ pub record HasSentTo (to : Peer) (datagrams : List (List ℕ)) (before after : L
   pub unsent : ℕ
   pub tried : HasTried before.tried after.tried before.send_faults after.send_faults (map (sent_to to) datagrams) sent unsent
 
+-- nothing was tried
+pub record IsUntried (before after : LinkSeen) : Type 0 where
+  pub same_tried : after.tried ≡ before.tried
+  pub same_faults : after.send_faults ≡ before.send_faults
+
 -- the answer was tried to the peer, and nothing else was tried
 pub record HasReplied (to : Peer) (text : List ℕ) (before after : LinkSeen) : Type 0 where
   pub datagrams : List (List ℕ)
   pub answer : IsAnswer text datagrams
   pub tried : HasSentTo to datagrams before after
+
+-- Exactly this text was tried to whoever asked, or nothing where memory refused it. A line that is itself an answer is
+-- answered by nothing, so that two controls never answer one another for ever.
+abbrev pub HasAnswer : (itself starved : Bool) → Peer → List ℕ → LinkSeen → LinkSeen → Type 0
+HasAnswer true starved from text before after = (starved ≡ false) × IsUntried before after
+HasAnswer false true from text before after = IsUntried before after
+HasAnswer false false from text before after = HasReplied from text before after

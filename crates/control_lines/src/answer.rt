@@ -1,9 +1,9 @@
 //! Answers to control lines, cut into datagrams.
 
-ghost use Rattle.std.specs.Prelude.{◌≡◌, ◌≤◌, ◌<◌, ◌+◌, ◌^◌, ◌++◌, ℕ, List, [], All, length, take, drop, IsTrue, OnOk, OnErr};
+ghost use Rattle.std.specs.Prelude.{◌≡◌, ◌≤◌, ◌<◌, ◌+◌, ◌^◌, ◌++◌, ℕ, List, [], All, length, take, drop, IfOk, IsTrue, OnOk, OnErr};
 ghost use Rattle.std.specs.List.{concat};
 ghost use Rattle.amt_ports.specs.Devices.{link_at};
-ghost use Rattle.script_lines.specs.Texts.{BeginsWith, closing_text};
+ghost use Rattle.script_lines.specs.Texts.{closing_text};
 ghost use Rattle.script_lines.specs.declared.reason.Reason.{Reason as ReasonValue};
 ghost use Rattle.control_lines.specs.{Answer.{AreCut, HasReplied, HasSentTo, IsAnswer, bad_text, closed, is_answer, piece_length}};
 
@@ -11,19 +11,19 @@ use amt_ports::Link;
 use amt_values::{Bytes, Peer};
 use memchr::memrchr;
 use script_lines::{Reason, append_closing};
-use std::alloc::AllocError;
+use std::alloc::{AllocError, Global};
 
 // The most octets of a piece. The line that closes an answer has at most 24, so a datagram has at most 1,400.
 const PIECE: usize = 1_376;
 
-/// Puts the line `bad REASON` at the end.
-pub fn append_bad(text: &mut Bytes, reason: Reason) -> Result<(), AllocError>
-    ensures text { OnOk result (text.new ≡ text.old ++ bad_text reason) }
-    ensures begun { OnErr result (BeginsWith text.new text.old) }
+/// The line `bad REASON`, of a line that asks for nothing.
+pub fn bad_text(alloc: Global, reason: Reason) -> Result<Bytes, AllocError>
+    ensures { IfOk result (λ text. text ≡ bad_text reason) }
 {
-    text.append(b"bad ")?;
+    let mut text = Bytes::copied(alloc, b"bad ")?;
     text.append(reason.word().as_bytes())?;
-    text.append(b"\n")
+    text.append(b"\n")?;
+    Ok(text)
 }
 
 /// Whether a datagram begins as what answers a line that asks for nothing, or one of which nothing is said.

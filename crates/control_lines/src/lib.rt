@@ -15,9 +15,8 @@ mod tally;
 mod tests;
 
 pub use answer::{
-    answer_line, answers_are_small, answers_are_whole, append_bad, is_answer,
-    short_answers_are_known,
+    answer_line, answers_are_small, answers_are_whole, bad_text, is_answer, short_answers_are_known,
 };
 pub use asking::{Asking, read_asking};
 pub use asking_gateway::{GatewayAsking, begins_asking, read_gateway_asking};
-pub use tally::{Tally, append_tally, numbers_are_few};
+pub use tally::{Tally, append_number, append_tally, numbers_are_few};

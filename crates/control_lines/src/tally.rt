@@ -2,7 +2,7 @@
 
 ghost use Rattle.std.specs.Prelude.{◌≡◌, ◌≤◌, ◌∷◌, ◌++◌, ℕ, List, All, length, map, OnOk, OnErr};
 ghost use Rattle.script_lines.specs.Texts.{BeginsWith};
-ghost use Rattle.control_lines.specs.Tally.{numbers_of, tally_line, tally_text};
+ghost use Rattle.control_lines.specs.Tally.{number_line, numbers_of, tally_line, tally_text};
 
 use amt_values::{Bytes, append_numeral};
 use std::alloc::{AllocError, Global};
@@ -50,8 +50,19 @@ impl Tally {
     }
 }
 
+/// Puts the line `WORD N` at the end.
+pub fn append_number(text: &mut Bytes, word: &str, number: u64) -> Result<(), AllocError>
+    ensures text { OnOk result (text.new ≡ text.old ++ number_line word.now number) }
+    ensures begun { OnErr result (BeginsWith text.new text.old) }
+{
+    text.append(word.as_bytes())?;
+    text.append(b" ")?;
+    append_numeral(text, number)?;
+    text.append(b"\n")
+}
+
 // Puts the line of a word at the end, if it was said.
-fn append_number(text: &mut Bytes, word: &str, number: u64) -> Result<(), AllocError>
+fn append_word(text: &mut Bytes, word: &str, number: u64) -> Result<(), AllocError>
     ensures text { OnOk result (text.new ≡ text.old ++ tally_line word.now number) }
     ensures begun { OnErr result (BeginsWith text.new text.old) }
 {
@@ -59,10 +70,7 @@ fn append_number(text: &mut Bytes, word: &str, number: u64) -> Result<(), AllocE
         return Ok(());
     }
     text.append(b"= ")?;
-    text.append(word.as_bytes())?;
-    text.append(b" ")?;
-    append_numeral(text, number)?;
-    text.append(b"\n")
+    append_number(text, word, number)
 }
 
 /// Puts a line `= WORD N` at the end for each word that was said, in order.
@@ -72,7 +80,7 @@ pub fn append_tally(text: &mut Bytes, words: &[&str], tally: &Tally) -> Result<(
     ensures begun { OnErr result (BeginsWith text.new text.old) }
 {
     for (word, number) in words.iter().zip(tally.numbers.iter()) {
-        append_number(text, word, *number)?;
+        append_word(text, word, *number)?;
     }
     Ok(())
 }

@@ -1,7 +1,7 @@
 //! Askings and answers as they are printed.
 
 use crate::{
-    Asking, GatewayAsking, Tally, answer_line, append_bad, append_tally, begins_asking, is_answer,
+    Asking, GatewayAsking, Tally, answer_line, append_tally, bad_text, begins_asking, is_answer,
     read_asking, read_gateway_asking,
 };
 use amt_ports::MemLink;
@@ -146,11 +146,9 @@ fn check_text(rt: &impl Abort, alloc: Global) -> Result<(), AllocError> {
     tally.count(2);
     let mut text = Bytes::new(alloc);
     append_tally(&mut text, &words, &tally)?;
-    append_bad(&mut text, Reason::Peer)?;
-    assert_eq!(rt;
-        text.as_slice(),
-        b"= granted 1\n= torn 2\nbad peer\n".as_slice()
-    );
+    assert_eq!(rt; text.as_slice(), b"= granted 1\n= torn 2\n".as_slice());
+    let bad = bad_text(alloc, Reason::Peer)?;
+    assert_eq!(rt; bad.as_slice(), b"bad peer\n".as_slice());
     Ok(())
 }
 

@@ -1,9 +1,9 @@
 -- How the lines of a turn are answered after it.
 use Rattle.std.{proofs.{Common.{◌≡◌, ℕ, ◌+◌, ◌≤◌, ◌<◌, cond, Bool, true, false, true≢false, List, [], ◌∷◌, ◌++◌, length, get_or, take, refl, sym, ap, subst, ◌∙◌, arith}, lemmas.List.{length-map, map-append, take_more, Sums.{count_by-le-length, sum_by-append}}}}
 use Rattle.amt_ports.{specs.{Devices.{LinkSeen, OutSeen}}, proofs.Waits.{no_waits}}
-use Rattle.control_lines.specs.Answer.{HasReplied}
+use Rattle.control_lines.specs.Answer.{IsUntried, HasReplied}
 use Rattle.gateway_machine.specs.declared.event.GatewayEvent.TheVariants.{LeaveAll}
-use Rattle.gateway_serving.specs.{Answering.{AnswersEach, AnswersOne, IsUnheard, LeavesSo, Refuses}, Askers.{IsAnswered, IsUntried, Reply, answer_more, ask_leave, ask_stop, no_answer, refused_among, refusing_more}, Counting.{one_if}, Leaving.{IsLeaving, AllLeft, LeaveRefused, Stayed}, Replies.{Standing, reply_text}, Servers.{Setup, counts_in, setup_in, standing_in, tally_in}}
+use Rattle.gateway_serving.specs.{Answering.{AnswersEach, AnswersOne, IsUnheard, LeavesSo, Refuses}, Askers.{IsAnswered, Reply, answer_more, ask_leave, ask_stop, no_answer, refused_among, refusing_more}, Counting.{one_if}, Leaving.{IsLeaving, AllLeft, LeaveRefused, Stayed}, Replies.{Standing, reply_text}, Servers.{Setup, counts_in, setup_in, standing_in, tally_in}}
 use Rattle.gateway_serving.specs.{Stages.{EndsTurnBy}, Traces.{AtWork, Does, WorkDoes, World, at_control, at_work, offering, refusing, with_control}, declared.{askers.Asker.{Asker}, counts.Counts.{Counts}, server.Server.{Server}}}
 use Rattle.gateway_serving.proofs.Traces.{Does-none, Does-then, counted, with_askers}
 

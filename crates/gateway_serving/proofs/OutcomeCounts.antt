@@ -1,10 +1,10 @@
 -- What the events of a gateway came to, counted by word.
 use Rattle.std.{proofs.{Common.{◌≡◌, ℕ, ◌<◌, ◌^◌, List, [], ◌∷◌, ◌++◌, length, map, refl, sym, ap, subst, ◌∙◌, arith}, Math.Logic.{∥∥₁_elim}, Props.{props}, lemmas.List.{length-map, map-append}}}
 use mathlib.Core.Sum.{⊎_set}
-use Rattle.control_lines.specs.Tally.{AreApart, numbers_of}
+use Rattle.control_lines.specs.Tally.{AreApart, HasCounted, IsTallyOfFew, numbers_of}
 use Rattle.relay_machine.{specs.Courses.{each_after}, proofs.Courses.{each_more}}
 use Rattle.gateway_machine.specs.{Runs.{After, GatewayAt}, declared.{event.GatewayEvent.{GatewayEvent}, gateway.Gateway.{Gateway}, outcome.GatewayOutcome.{GatewayOutcome}, settings.GatewaySettings.{GatewaySettings}}}
-use Rattle.gateway_serving.specs.{OutcomeWords.{HasCounted, IsTallied, IsTallyOfFew, outcome_after, outcome_words, outcomes_of, word_of, words_said}, declared.outcomes.Outcomes.{Outcomes}}
+use Rattle.gateway_serving.specs.{OutcomeWords.{IsTallied, outcome_after, outcome_words, outcomes_of, word_of, words_said}, declared.outcomes.Outcomes.{Outcomes}}
 
 -- no word stands at two places
 pub words_apart : AreApart outcome_words
@@ -22,7 +22,7 @@ IsTallied-none settings first events outcomes none numbers =
 
 -- so few words can be counted
 pub IsTallied-few : (settings : GatewaySettings) (first : ℕ) (events : List GatewayEvent) (outcomes : Outcomes) → IsTallied settings first events outcomes → length events < 2 ^ 62
-    → IsTallyOfFew outcomes.tally
+    → IsTallyOfFew outcome_words outcomes.tally
 IsTallied-few settings first events outcomes tallied few = (
   words_said settings first events,
   tallied,
@@ -37,7 +37,7 @@ module _ (settings : GatewaySettings) (first : ℕ) (events : List GatewayEvent)
 
   -- one outcome more
   pub IsTallied-then : (later : List GatewayEvent) (outcome : GatewayOutcome) (outcomes outcomes' : Outcomes) → later ≡ events ++ event ∷ []
-      → outcome ≡ outcome_after settings first events event → HasCounted (word_of outcome) outcomes outcomes' → IsTallied settings first events outcomes → IsTallied settings first later outcomes'
+      → outcome ≡ outcome_after settings first events event → HasCounted outcome_words (word_of outcome) outcomes.tally outcomes'.tally → IsTallied settings first events outcomes → IsTallied settings first later outcomes'
   IsTallied-then later outcome outcomes outcomes' next is counted tallied =
       counted (words_said settings first events) tallied
       ∙ ap (λ (one : GatewayOutcome). numbers_of outcome_words (words_said settings first events ++ word_of one ∷ [])) is
@@ -47,7 +47,7 @@ module _ (settings : GatewaySettings) (first : ℕ) (events : List GatewayEvent)
 -- the same of a gateway that these events may have left where it is
 pub IsTallied-step : (settings after : GatewaySettings) (first : ℕ) (events later : List GatewayEvent) (gateway : Gateway) (event : GatewayEvent) (outcome : GatewayOutcome) (outcomes outcomes' : Outcomes)
     → ∥ GatewayAt gateway settings first events ∥₁ → After gateway (λ settings first events. outcome ≡ outcome_after settings first events event) → after ≡ settings → later ≡ events ++ event ∷ []
-    → HasCounted (word_of outcome) outcomes outcomes' → IsTallied settings first events outcomes → IsTallied after first later outcomes'
+    → HasCounted outcome_words (word_of outcome) outcomes.tally outcomes'.tally → IsTallied settings first events outcomes → IsTallied after first later outcomes'
 IsTallied-step settings after first events later gateway event outcome outcomes outcomes' at answers same next counted tallied =
     subst (λ (one : GatewaySettings). IsTallied one first later outcomes') (sym same)
     (∥∥₁_elim at (hlevel (props, ⊎_set))

@@ -3,7 +3,8 @@ use Rattle.std.{proofs.{Common.{◌≡◌, ℕ, ◌+◌, ◌≤◌, ◌||◌, ma
 use Rattle.amt_ports.{specs.{declared.{link.LinkAnswer.{LinkAnswer, TheVariants.{Closed as LinkClosed}}}, Answers.{Taken, unless_starved}, Sends.{TriedSend}, Devices.{AnswersAll, LinkSeen, OutSeen, WaitsBriefly, WordsSeen, link_seen, out_seen, words_seen}, Told.{AppendsAll}}, proofs.{Lists.{AnswersAll-then}, SoFar.{GoesOn}, Told.{AppendsAll-none, AppendsAll-then}, Waits.{no_waits, waits_then}}}
 use Rattle.gateway_machine.specs.declared.event.GatewayEvent.{GatewayEvent}
 use Rattle.group_records.specs.declared.family.Family.{Family}
-use Rattle.gateway_serving.specs.{Askers.{IsUntried, asker_in, askers_among}, Counting.{Tallies, is_bad, is_datagram, is_starved_line, with_starved}, Events.{call_of, datagram_of}, Servers.{counts_in, events_in, latest_in, setup_in, wanted_packets, wanted_sends}, Taking.{HasSent}, Traces.{AtWork, Does, Reads, Trace, WorkDoes, World, and_then, at_server, at_work, by_control, by_link, hearing, nothing, starving, taking, world}}
+use Rattle.control_lines.specs.Answer.{IsUntried}
+use Rattle.gateway_serving.specs.{Askers.{asker_in, askers_among}, Counting.{Tallies, is_bad, is_datagram, is_starved_line, with_starved}, Events.{call_of, datagram_of}, Servers.{counts_in, events_in, latest_in, setup_in, wanted_packets, wanted_sends}, Taking.{HasSent}, Traces.{AtWork, Does, Reads, Trace, WorkDoes, World, and_then, at_server, at_work, by_control, by_link, hearing, nothing, starving, taking, world}}
 use Rattle.gateway_serving.{specs.{Turns.{ControlAnswer, latest_of}, declared.{askers.Asker.{Asker}, counts.Counts.{Counts}, server.Server.{Server}}}, proofs.{Sending.{delivered_after-append, sends_after-append}, Trying.{HasSent-at, HasSent-none, HasSent-then}}}
 
 pub neither : (one other : Bool) → (one || other) ≡ false → (one ≡ false) × (other ≡ false)

@@ -3,7 +3,8 @@ use Rattle.std.{proofs.Common.{◌≡◌, ◌≢◌, ℕ, ◌+◌, ◌*◌, max,
 use Rattle.amt_config.specs.declared.config.{GatewayConfig.{GatewayConfig}, Join.{Join}}
 use Rattle.amt_ports.{specs.{Causes.{Rose}, Sends.{TriedSend, unsent_count}, Told.{AppendsAll}, declared.end.End.{End, TheVariants.{LinkFault, FeedFault, WordsFault, Memory}}, EndCauses.{IsCauseOf}, Devices.{LinkSeen, OutSeen, WordsSeen}}, proofs.{Told.{AppendsAll-none}, Trying.{HasTried-none}}}
 use Rattle.gateway_machine.specs.{Settings.{family_of}, declared.event.GatewayEvent.{GatewayEvent, TheVariants.{Moment}}}
-use Rattle.gateway_serving.specs.{Askers.{IsUntried, Reply, refused_among}, Counting.{bad_lines_taken, datagrams_heard, lines_taken, no_counts, starved_in}, Devices.{Devices, devices_seen}, Events.{events_from, events_of, leave_events, nonce_of}, Leaving.{Leaving, Stayed, refused_leave}, Replies.{Standing}, Rounds.{AreRounds, no_round, standing_after, unsent_of}}
+use Rattle.control_lines.specs.Answer.{IsUntried}
+use Rattle.gateway_serving.specs.{Askers.{Reply, refused_among}, Counting.{bad_lines_taken, datagrams_heard, lines_taken, no_counts, starved_in}, Devices.{Devices, devices_seen}, Events.{events_from, events_of, leave_events, nonce_of}, Leaving.{Leaving, Stayed, refused_leave}, Replies.{Standing}, Rounds.{AreRounds, no_round, standing_after, unsent_of}}
 use Rattle.gateway_serving.specs.{Reports.{report_of}, Runs.{HasEnded, MayGo, Run, control_answers, link_answers, moments_of, refused_of, served, turns_of, undrawn, unmade, unopened, with_cut, words_of}, Servers.{IsFresh, Setup, counts_in, events_in, latest_in, setup_by, setup_in, wanted_packets, wanted_sends}, Serving.{Serves, stand_of}}
 use Rattle.gateway_serving.specs.{Settings.{opening_of, settings_of as settings_by}, Stages.{EndsIn, IsBegunBy, OpensSo, RunsSo, standing_since}, Starving.{StarveWhereItSends}, Traces.{AtWork, Does, Trace, World, in_run, taking}, Turns.{IsWhole, Turn}, declared.{counts.Counts.{Counts}, served.GatewayServed.{GatewayServed}}}
 use Rattle.gateway_serving.proofs.{Running.{EndsIn-none, turns_none}, Sending.{delivered_after-append, sends_after-append}, Starving.{StarveWhereItSends-same}, Traces.{Does-at, Does-then, drew, handed_by, max_zero, sent_by}, Trying.{HasSent-at, HasSent-then, all_tried, as_many, none_tried, tried_at, tried_then, unsent_then}}

@@ -2,7 +2,7 @@
 use Rattle.std.specs.{Prelude.{◌≡◌, ℕ, ◌+◌, Bool, true, false, List, [], ◌∷◌, ◌++◌, count_by, Option, None, Some, Result, Ok, Err, if◌then◌else◌}, List.{filter_map, list_any}}
 use Rattle.amt_ports.specs.{Devices.{LinkSeen}, declared.link.LinkAnswer.{LinkAnswer, TheVariants.{Datagram, Nothing as NothingCame, Closed as LinkClosed}}}
 use Rattle.amt_values.specs.declared.peer.Peer.{Peer}
-use Rattle.control_lines.specs.{Answer.{HasReplied, is_answer}, declared.asking_gateway.GatewayAsking.{GatewayAsking, TheVariants.{Counts, Show, Stop, StopLeave}}}
+use Rattle.control_lines.specs.{Answer.{HasAnswer, is_answer}, declared.asking_gateway.GatewayAsking.{GatewayAsking, TheVariants.{Counts, Show, Stop, StopLeave}}}
 use Rattle.gateway_machine.specs.declared.settings.GatewaySettings.{GatewaySettings}
 use Rattle.script_lines.specs.declared.reason.Reason.{Reason}
 use Rattle.gateway_serving.specs.{Replies.{Standing, reply_text}, Turns.{Asks, Bad, Called, ControlAnswer, Line, Starved, Turn}, declared.askers.Asker.{Asker}}
@@ -63,19 +63,10 @@ refused_among replies = count_by (λ one. one.starved) replies
 abbrev pub refusing_more : ℕ → Standing → Standing
 refusing_more number standing = record standing { starved = standing.starved + number }
 
--- nothing was tried in between
-pub record IsUntried (before after : LinkSeen) : Type 0 where
-  pub same_tried : after.tried ≡ before.tried
-  pub same_faults : after.send_faults ≡ before.send_faults
-
--- exactly the answer was tried, to whoever asked alone; or nothing, where memory refused it
-abbrev pub HasAnswer : Bool → Peer → List ℕ → LinkSeen → LinkSeen → Type 0
-HasAnswer true from text before after = IsUntried before after
-HasAnswer false from text before after = HasReplied from text before after
-
 module _ (settings : GatewaySettings) (first : ℕ) where
+  -- exactly the answer was tried, to whoever asked alone; or nothing, where memory refused it
   abbrev pub IsAnswered : Standing → Reply → LinkSeen → LinkSeen → Type 0
-  IsAnswered standing one before after = HasAnswer one.starved one.asker.from (reply_text settings first standing one.asker.reading) before after
+  IsAnswered standing one before after = HasAnswer false one.starved one.asker.from (reply_text settings first standing one.asker.reading) before after
 
   -- one after the other, each by where the run stands then: a refused answer counts at once
   pub data AreAnswered (standing : Standing) (start : LinkSeen) : List Reply → LinkSeen → Type 0 where

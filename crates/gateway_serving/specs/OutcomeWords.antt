@@ -1,6 +1,6 @@
 -- The words by which a gateway's outcomes are counted: of each, the first that a replay prints of it, and of a refused
 -- call or an ignored datagram also the first of its cause.
-use Rattle.std.specs.Prelude.{◌≡◌, ℕ, ◌<◌, ◌^◌, List, [], ◌∷◌, ◌++◌, codes, length, map}
+use Rattle.std.specs.Prelude.{◌≡◌, ℕ, List, [], ◌∷◌, codes, map}
 use Rattle.control_lines.specs.Tally.{numbers_of}
 use Rattle.relay_machine.specs.Courses.{each_after}
 use Rattle.gateway_machine.specs.{Runs.{answer_after}, declared.{event.GatewayEvent.{GatewayEvent}, settings.GatewaySettings.{GatewaySettings}}}
@@ -62,15 +62,6 @@ outcomes_of settings first events = each_after (outcome_after settings first) []
 -- the words of what these events came to
 abbrev pub words_said : GatewaySettings → ℕ → List GatewayEvent → List (List ℕ)
 words_said settings first events = map word_of (outcomes_of settings first events)
-
--- these are the numbers of fewer words than can be counted
-abbrev pub IsTallyOfFew : List ℕ → Type 0
-IsTallyOfFew numbers = (said : List (List ℕ)) × (numbers ≡ numbers_of outcome_words said) × (length said < 2 ^ 62)
-
--- one word more is counted, whatever was so far
-abbrev pub HasCounted : List ℕ → Outcomes → Outcomes → Type 0
-HasCounted word before after =
-    (said : List (List ℕ)) → before.tally ≡ numbers_of outcome_words said → after.tally ≡ numbers_of outcome_words (said ++ word ∷ [])
 
 -- the words of what these events came to are counted, each in its place
 abbrev pub IsTallied : GatewaySettings → ℕ → List GatewayEvent → Outcomes → Type 0

@@ -1,7 +1,7 @@
 -- The texts by which a running gateway answers lines, by where it stands.
 use Rattle.std.specs.Prelude.{ℕ, ◌^◌, max, nat_lt, List, [], ◌∷◌, ◌++◌, codes, decimal, flat_map, Option, None, Some, Result, Ok, Err, if◌then◌else◌}
 use Rattle.amt_values.specs.{declared.{address.Ip.{Ip}, peer.Peer.{Peer}}, Text.{ip_text, peer_text}}
-use Rattle.control_lines.specs.{Answer.{bad_text}, Tally.{numbers_of, tally_text}, declared.asking_gateway.GatewayAsking.{GatewayAsking, TheVariants.{Counts, Show, Stop, StopLeave}}}
+use Rattle.control_lines.specs.{Answer.{bad_text}, Tally.{number_line, numbers_of, tally_text}, declared.asking_gateway.GatewayAsking.{GatewayAsking, TheVariants.{Counts, Show, Stop, StopLeave}}}
 use Rattle.gateway_machine.specs.{Answers.{is_idle}, Runs.{Run, run_of}, declared.{event.GatewayEvent.{GatewayEvent}, exchange.{Exchange.{Exchange}, GatewayState.{GatewayState, TheVariants.{Idle, Discovering, Requesting, Active}}}, settings.GatewaySettings.{GatewaySettings}}}
 use Rattle.script_lines.specs.{Texts.{mode_text}, declared.reason.Reason.{Reason}}
 use Rattle.socket_merge.specs.{History.{open_sockets}, declared.stored.Socket.{Socket}}
@@ -29,10 +29,6 @@ numbers_at standing = record {
   unsent = standing.unsent;
   starved = standing.starved;
 }
-
--- `WORD N`
-abbrev pub number_line : List ℕ → ℕ → List ℕ
-number_line word number = word ++ (codes " " ++ (decimal number ++ (10 ∷ [])))
 
 -- what came in: `turns N`, `datagrams N`, `controls N` and `bad_controls N`
 unfoldable pub taken_text : Numbers → List ℕ

@@ -3,7 +3,8 @@ use Rattle.std.specs.Prelude.{◌≡◌, ℕ, ◌+◌, List, [], ◌∷◌, ◌+
 use Rattle.amt_ports.specs.{Devices.{LinkSeen}, Sends.{TriedSend, unsent_count}}
 use Rattle.amt_values.specs.declared.peer.Peer.{Peer}
 use Rattle.gateway_machine.specs.declared.{event.GatewayEvent.{GatewayEvent}, settings.GatewaySettings.{GatewaySettings}}
-use Rattle.gateway_serving.specs.{Askers.{AreAnswered, IsUntried, Reply, askers_of, refused_among}, Counting.{bad_lines_taken, datagrams_heard, lines_taken, starved_in}, Events.{events_from}, Replies.{Standing}, Servers.{Setup, wanted_packets, wanted_sends}, Turns.{Turn}}
+use Rattle.control_lines.specs.Answer.{IsUntried}
+use Rattle.gateway_serving.specs.{Askers.{AreAnswered, Reply, askers_of, refused_among}, Counting.{bad_lines_taken, datagrams_heard, lines_taken, starved_in}, Events.{events_from}, Replies.{Standing}, Servers.{Setup, wanted_packets, wanted_sends}, Turns.{Turn}}
 
 -- as many of the first sends as are wanted here: how many of those weren't taken
 abbrev pub unsent_of : List (Peer × List ℕ) → List TriedSend → ℕ

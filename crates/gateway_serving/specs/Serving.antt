@@ -2,7 +2,8 @@
 use Rattle.std.specs.Prelude.{◌≡◌, ℕ, ◌+◌, List, [], length}
 use Rattle.amt_config.specs.declared.config.GatewayConfig.{GatewayConfig}
 use Rattle.amt_ports.specs.{Sends.{TriedSend}, Told.{AppendsAll}, declared.{link.LinkAnswer.TheVariants.{Closed as LinkClosed}, end.End.TheVariants.{LinkFault, FeedFault, WordsFault}}, EndCauses.{IsCauseOf}, Devices.{AnswersAll, LinkSeen}, Tried.{HasTried}}
-use Rattle.gateway_serving.specs.{Askers.{IsUntried}, Counting.{AreCounted}, Devices.{Devices}, Events.{events_of, first_moment, first_of}, Replies.{Standing}, Rounds.{AreRounds, standing_after}, Runs.{MayGo, Run, control_answers, link_answers, moments_of, refused_of, turns_of, words_of}, Sending.{delivered_after, sends_after}, Servers.{Setup}, Settings.{settings_of}, Starving.{StarveWhereItSends}, Turns.{Turn}, declared.served.GatewayServed.{GatewayServed}}
+use Rattle.control_lines.specs.Answer.{IsUntried}
+use Rattle.gateway_serving.specs.{Counting.{AreCounted}, Devices.{Devices}, Events.{events_of, first_moment, first_of}, Replies.{Standing}, Rounds.{AreRounds, standing_after}, Runs.{MayGo, Run, control_answers, link_answers, moments_of, refused_of, turns_of, words_of}, Sending.{delivered_after, sends_after}, Servers.{Setup}, Settings.{settings_of}, Starving.{StarveWhereItSends}, Turns.{Turn}, declared.served.GatewayServed.{GatewayServed}}
 
 -- what the gateway of a run is set up with
 abbrev pub setup_of : GatewayConfig → Run → Setup

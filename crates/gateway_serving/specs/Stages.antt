@@ -5,7 +5,8 @@ use Rattle.amt_ports.specs.{Answers.{Taken}, Sends.{TriedSend}, Devices.{LinkSee
 use Rattle.amt_values.specs.declared.peer.Peer.{Peer}
 use Rattle.gateway_machine.specs.{Outcomes.{NeedsNoMemory}, Runs.{answer_after}, declared.event.GatewayEvent.{GatewayEvent, TheVariants.{Moment}}}
 use Rattle.group_records.specs.declared.family.Family.{Family}
-use Rattle.gateway_serving.specs.{Askers.{AreAnswered, IsUntried, Reply, ask_leave, ask_stop, askers_among, askers_of, refused_among}, Counting.{bad_lines_taken, datagrams_heard, lines_taken, starved_in}, Events.{events_from, nonces_in}, Leaving.{IsLeaving, Leaving}, Replies.{Standing}, Rounds.{AreRounds, unsent_of}, Runs.{HasEnded, IsCut, with_cut}, Servers.{Setup, events_in, family_in, counts_in, latest_in, setup_in, standing_in, wanted_packets, wanted_sends}, Settings.{opening_of}, Starving.{SendsAt, StarveWhereItSends}, Traces.{AtControl, AtWork, Does, WorkDoes, World, beginning, ending, in_run, in_turns, offering, reading, taking, with_control}, Turns.{IsWhole, Line, MayBecome, Turn, a_line}, declared.{askers.Asker.{Asker}, server.Server.{Server}}}
+use Rattle.control_lines.specs.Answer.{IsUntried}
+use Rattle.gateway_serving.specs.{Askers.{AreAnswered, Reply, ask_leave, ask_stop, askers_among, askers_of, refused_among}, Counting.{bad_lines_taken, datagrams_heard, lines_taken, starved_in}, Events.{events_from, nonces_in}, Leaving.{IsLeaving, Leaving}, Replies.{Standing}, Rounds.{AreRounds, unsent_of}, Runs.{HasEnded, IsCut, with_cut}, Servers.{Setup, events_in, family_in, counts_in, latest_in, setup_in, standing_in, wanted_packets, wanted_sends}, Settings.{opening_of}, Starving.{SendsAt, StarveWhereItSends}, Traces.{AtControl, AtWork, Does, WorkDoes, World, beginning, ending, in_run, in_turns, offering, reading, taking, with_control}, Turns.{IsWhole, Line, MayBecome, Turn, a_line}, declared.{askers.Asker.{Asker}, server.Server.{Server}}}
 
 -- the event was taken, or memory refused it, which it may where the event needs some
 pub record OffersSo (event : GatewayEvent) (before after : AtWork) : Type 0 where

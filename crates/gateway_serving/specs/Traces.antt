@@ -3,7 +3,8 @@ use Rattle.std.specs.Prelude.{◌≡◌, ℕ, ◌+◌, ◌*◌, ◌≤◌, ◌||
 use Rattle.amt_ports.specs.{declared.{link.LinkAnswer.{LinkAnswer, TheVariants.{Closed as LinkClosed}}, end.End.{End, TheVariants.{LinkFault, FeedFault}}}, Answers.{Taken, unless_starved}, Bursts.{AnswerKinds, AskedSo, Asking}, Devices.{AnswersAll, LinkSeen, OutSeen, WaitsBriefly, WordsSeen}, Told.{AppendsAll}}
 use Rattle.gateway_machine.specs.declared.event.GatewayEvent.{GatewayEvent}
 use Rattle.group_records.specs.declared.family.Family.{Family}
-use Rattle.gateway_serving.specs.{Askers.{IsUntried, askers_among}, Counting.{Tallies, bad_lines_taken, datagrams_heard, is_bad, is_datagram, is_starved_line, lines_taken, one_if, starved_in}, Events.{calls_in, datagrams_in, events_from, leave_events, moments_in, nonces_in}, Leaving.{Leaving, refused_leave}, Runs.{control_answers, link_answers, moments_given, words_drawn}}
+use Rattle.control_lines.specs.Answer.{IsUntried}
+use Rattle.gateway_serving.specs.{Askers.{askers_among}, Counting.{Tallies, bad_lines_taken, datagrams_heard, is_bad, is_datagram, is_starved_line, lines_taken, one_if, starved_in}, Events.{calls_in, datagrams_in, events_from, leave_events, moments_in, nonces_in}, Leaving.{Leaving, refused_leave}, Runs.{control_answers, link_answers, moments_given, words_drawn}}
 use Rattle.gateway_serving.specs.{Servers.{counts_in, events_in, family_in, latest_in, setup_in, tally_in, wanted_packets, wanted_sends}, Taking.{HasSent}, Turns.{ControlAnswer, Turn, from_control, from_link, latest_of}, declared.{askers.Asker.{Asker}, server.Server.{Server}}}
 
 -- What was taken and heard: the events, the answers of each device, whether the link was asked, and what is counted

@@ -1,9 +1,11 @@
-//! The numbers of a running gateway, as its answers to lines have them.
+//! The numbers of a running gateway, as its answers to lines and its report have them.
 ghost use Rattle.std.specs.Prelude.{◌≡◌, ◌++◌, OnOk};
-ghost use Rattle.gateway_serving.specs.Replies.{numbers_text, sent_text, taken_text};
+ghost use Rattle.gateway_serving.specs.{Replies.{numbers_text, sent_text, taken_text}, Reports.{numbers_in}};
 
 use crate::counts::Counts;
+use crate::served::GatewayServed;
 use amt_values::Bytes;
+use control_lines::append_number;
 use std::alloc::AllocError;
 
 /// Numbers of a running gateway.
@@ -24,11 +26,10 @@ pub struct Numbers {
 fn append_taken(text: &mut Bytes, numbers: &Numbers) -> Result<(), AllocError>
     ensures { OnOk result (text.new ≡ text.old ++ taken_text numbers.now) }
 {
-    write!(text, "turns {}\n", numbers.turns)?;
-    write!(text, "datagrams {}\n", numbers.datagrams)?;
-    write!(text, "controls {}\n", numbers.controls)?;
-    write!(text, "bad_controls {}\n", numbers.bad_controls)?;
-    Ok(())
+    append_number(text, "turns", numbers.turns)?;
+    append_number(text, "datagrams", numbers.datagrams)?;
+    append_number(text, "controls", numbers.controls)?;
+    append_number(text, "bad_controls", numbers.bad_controls)
 }
 
 // What went out, and what memory refused.
@@ -36,10 +37,9 @@ fn append_taken(text: &mut Bytes, numbers: &Numbers) -> Result<(), AllocError>
 fn append_sent(text: &mut Bytes, numbers: &Numbers) -> Result<(), AllocError>
     ensures { OnOk result (text.new ≡ text.old ++ sent_text numbers.now) }
 {
-    write!(text, "delivered {}\n", numbers.delivered)?;
-    write!(text, "unsent {}\n", numbers.unsent)?;
-    write!(text, "starved {}\n", numbers.starved)?;
-    Ok(())
+    append_number(text, "delivered", numbers.delivered)?;
+    append_number(text, "unsent", numbers.unsent)?;
+    append_number(text, "starved", numbers.starved)
 }
 
 impl Numbers {
@@ -72,5 +72,29 @@ impl Numbers {
     {
         append_taken(text, self)?;
         append_sent(text, self)
+    }
+}
+
+impl GatewayServed {
+    // Those of the report.
+    fn numbers(&self) -> Numbers
+        ensures { result ≡ numbers_in self.now }
+    {
+        Numbers {
+            turns: self.turns,
+            datagrams: self.datagrams,
+            controls: self.controls,
+            bad_controls: self.bad_controls,
+            delivered: self.delivered,
+            unsent: self.unsent,
+            starved: self.starved,
+        }
+    }
+
+    /// Puts a line for each of its numbers at the end.
+    pub fn append_numbers(&self, text: &mut Bytes) -> Result<(), AllocError>
+        ensures { OnOk result (text.new ≡ text.old ++ numbers_text (numbers_in self.now)) }
+    {
+        self.numbers().append(text)
     }
 }

@@ -1,9 +1,9 @@
 //! The words by which a running gateway counts what its events came to.
 ghost use Rattle.std.specs.{Prelude.{◌≡◌, ◌<◌, ◌++◌, ℕ, List, [], Some, IfOk, OnOk, length}, List.{slice_get}};
-ghost use Rattle.control_lines.specs.Tally.{BeginsWithWord, numbers_of, tally_text};
+ghost use Rattle.control_lines.specs.Tally.{BeginsWithWord, HasCounted, IsTallyOfFew, numbers_of, tally_text};
 ghost use Rattle.gateway_machine.specs.declared.outcome.GatewayOutcome.{GatewayOutcome as OutcomeValue};
 ghost use Rattle.gateway_script.specs.Texts.{outcome_text};
-ghost use Rattle.gateway_serving.specs.OutcomeWords.{HasCounted, IsTallyOfFew, cause_word, outcome_words, refusal_word, word_of};
+ghost use Rattle.gateway_serving.specs.OutcomeWords.{cause_word, outcome_words, refusal_word, word_of};
 
 use amt_values::Bytes;
 use control_lines::{Tally, append_tally};
@@ -107,16 +107,16 @@ impl Outcomes {
     // Counts the word at this place.
     fn count_at(&mut self, place: usize)
         requires within { place < length outcome_words }
-        requires few { IsTallyOfFew self.old.tally }
-        ensures { (word : List ℕ) → slice_get outcome_words place ≡ Some word → HasCounted word self.old self.new }
+        requires few { IsTallyOfFew outcome_words self.old.tally }
+        ensures { (word : List ℕ) → slice_get outcome_words place ≡ Some word → HasCounted outcome_words word self.old.tally self.new.tally }
     {
         self.tally.count(place);
     }
 
     /// Counts an outcome.
     pub(crate) fn count(&mut self, outcome: &GatewayOutcome)
-        requires few { IsTallyOfFew self.old.tally }
-        ensures { HasCounted (word_of outcome.now) self.old self.new }
+        requires few { IsTallyOfFew outcome_words self.old.tally }
+        ensures { HasCounted outcome_words (word_of outcome.now) self.old.tally self.new.tally }
     {
         self.count_at(place_of(outcome));
     }

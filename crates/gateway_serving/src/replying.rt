@@ -1,6 +1,6 @@
 //! The texts by which a running gateway answers lines. It knows no device.
 ghost use Rattle.std.specs.Prelude.{◌≡◌, ◌<◌, ◌^◌, [], ◌∷◌, ◌++◌, flat_map, IfOk, IfSome, OnOk};
-ghost use Rattle.control_lines.specs.{Answer.{bad_text}, Tally.{tally_text}};
+ghost use Rattle.control_lines.specs.Tally.{tally_text};
 ghost use Rattle.gateway_machine.specs.Runs.{After};
 ghost use Rattle.script_lines.specs.Texts.{mode_text};
 ghost use Rattle.gateway_serving.specs.{OutcomeWords.{IsTallied, outcome_words}, Replies.{Standing, due_text, numbers_at, numbers_text, relay_text, reply_text, show_text, socket_text, sources_text, state_text, state_word}};
@@ -8,7 +8,7 @@ ghost use Rattle.gateway_serving.specs.{OutcomeWords.{IsTallied, outcome_words},
 use crate::numbers::Numbers;
 use crate::outcomes::Outcomes;
 use amt_values::{Bytes, Ip, Moment, Peer};
-use control_lines::{GatewayAsking, append_bad};
+use control_lines::{GatewayAsking, bad_text};
 use gateway_machine::{Gateway, GatewayState};
 use script_lines::{Reason, append_ip, append_numbered, append_peer, mode_word};
 use socket_merge::Socket;
@@ -124,15 +124,6 @@ pub(crate) fn show_text(alloc: Global, gateway: &Gateway) -> Result<Bytes, Alloc
     append_relay(&mut text, &gateway.relay())?;
     append_due(&mut text, gateway.due())?;
     append_sockets(&mut text, gateway.open_sockets())?;
-    Ok(text)
-}
-
-// The line of a line that asks for nothing.
-fn bad_text(alloc: Global, reason: Reason) -> Result<Bytes, AllocError>
-    ensures { IfOk result (λ text. text ≡ bad_text reason) }
-{
-    let mut text = Bytes::new(alloc);
-    append_bad(&mut text, reason)?;
     Ok(text)
 }
 

@@ -5,7 +5,7 @@ use amt_ports::{Got, Link, MemOut, OutLink, UdpControl, UdpFeed, UdpLink};
 use amt_values::{Ip, Peer};
 use relay_serving::{Control, Copies, CopyCount};
 use replication_workers::Outs;
-use serving_commands::{CountedOut, HostLive, HostRelay, Live, OpenFault, SharedCopies};
+use serving_commands::{AskedBy, CountedOut, HostLive, HostRelay, Live, OpenFault, SharedCopies};
 use std::alloc::{AllocError, Global};
 use std::fs::Files;
 use std::mem::replace;
@@ -84,12 +84,19 @@ fn may_be_asked<K: Link, N: Copies, O: OutLink + Drop>(
     idle && answered && sent && before == none && control.copies.copies() == counted
 }
 
+fn asking(control: Peer) -> AskedBy {
+    AskedBy {
+        control: Some(control),
+        report_seconds: 0,
+    }
+}
+
 // Whether a relay is opened with such a socket; it is given back.
 fn is_opened_at<R>(alloc: Global, live: &mut HostLive<R>, slots: u32, ends: &Ends) -> bool
 where
     R: Net + Threads + Wait + Clock + RandomSource + Files + Copy + Drop + 'static,
 {
-    let Ok(HostRelay { mut devices }) = live.open_relay(&ANY, &ANY, &Some(ends.at), slots) else {
+    let Ok(HostRelay { mut devices }) = live.open_relay(&ANY, &ANY, &asking(ends.at), slots) else {
         return false;
     };
     let outs = replace(&mut devices.outs, Outs::new(alloc));
@@ -103,7 +110,7 @@ where
 
 // Why no relay is opened with a control socket there.
 fn fault_at<V: Live>(live: &mut V, at: &Peer) -> Option<OpenFault> {
-    match live.open_relay(&ANY, &ANY, &Some(*at), 1) {
+    match live.open_relay(&ANY, &ANY, &asking(*at), 1) {
         Ok(devices) => {
             live.return_relay(devices);
             None
@@ -124,7 +131,7 @@ fn a_relay_is_asked_where_it_was_opened_for_that_and_its_copies_are_counted(
         far: &far,
         copies: sink.peer,
     };
-    let mut live = HostLive::new(rt, rt.alloc());
+    let mut live = HostLive::new(rt, rt.alloc(), rt.stderr());
     assert!(rt; fault_at(&mut live, &ends.at) == Some(OpenFault::Failed) && live.faults() == 1);
     drop(free);
     // What was given back is closed, so each can have the same place after the other.

@@ -11,6 +11,8 @@ mod control;
 #[cfg(test)]
 mod files;
 #[cfg(test)]
+mod journal;
+#[cfg(test)]
 mod loopback;
 #[cfg(test)]
 mod machine;

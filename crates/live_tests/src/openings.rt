@@ -5,7 +5,7 @@ use crate::loopback::{ANY, FarEnd, WAIT_MS, buffer};
 use amt_ports::{Feed, FeedGot, Link, OutLink, UdpFeed, UdpLink};
 use amt_values::Peer;
 use replication_workers::Outs;
-use serving_commands::{HostLive, HostRelay, Live, OpenFault};
+use serving_commands::{AskedBy, HostLive, HostRelay, Live, OpenFault};
 use std::alloc::Global;
 use std::fs::Files;
 use std::io;
@@ -15,6 +15,11 @@ use std::random::RandomSource;
 use std::sync::Wait;
 use std::thread::Threads;
 use std::time::Clock;
+
+const UNASKED: AskedBy = AskedBy {
+    control: None,
+    report_seconds: 0,
+};
 
 // Whether the feed takes what the far end sends to this peer.
 fn feed_is_at(alloc: Global, feed: &mut UdpFeed, at: &Peer, far: &FarEnd) -> bool {
@@ -80,7 +85,8 @@ fn is_relay_at<R>(
 where
     R: Net + Threads + Wait + Clock + RandomSource + Files + Copy + Drop + 'static,
 {
-    let Ok(HostRelay { mut devices }) = live.open_relay(&at.listen, &at.feed, &None, slots) else {
+    let Ok(HostRelay { mut devices }) = live.open_relay(&at.listen, &at.feed, &UNASKED, slots)
+    else {
         return false;
     };
     let link = link_is_at(&mut devices.link, &at.listen, far);
@@ -97,7 +103,7 @@ fn is_gateway_at<R>(alloc: Global, live: &mut HostLive<R>, at: &Places, far: &Fa
 where
     R: Net + Threads + Wait + Clock + RandomSource + Files + Copy + Drop + 'static,
 {
-    let Ok(mut devices) = live.open_gateway(&at.listen, &at.feed) else {
+    let Ok(mut devices) = live.open_gateway(&at.listen, &at.feed, 0) else {
         return false;
     };
     let link = link_is_at(&mut devices.link, &at.listen, far);
@@ -122,14 +128,14 @@ where
 fn devices_are_opened_where_it_is_asked_and_send_from_there(rt: HostRuntime) -> io::Result<()> {
     let far = FarEnd::new(&rt)?;
     let at = free_places(&rt)?;
-    let mut live = HostLive::new(rt, rt.alloc());
+    let mut live = HostLive::new(rt, rt.alloc(), rt.stderr());
     assert!(rt; all_are_at(rt.alloc(), &mut live, &at, &far) && live.faults() == 0);
     Ok(())
 }
 
 // Why the peer can't be opened for a relay; what is opened is given back at once.
 fn relay_fault<V: Live>(live: &mut V, listen: &Peer) -> Option<OpenFault> {
-    match live.open_relay(listen, &ANY, &None, 1) {
+    match live.open_relay(listen, &ANY, &UNASKED, 1) {
         Ok(devices) => {
             live.return_relay(devices);
             None
@@ -140,7 +146,7 @@ fn relay_fault<V: Live>(live: &mut V, listen: &Peer) -> Option<OpenFault> {
 
 // The same for a gateway.
 fn gateway_fault<V: Live>(live: &mut V, listen: &Peer) -> Option<OpenFault> {
-    match live.open_gateway(listen, &ANY) {
+    match live.open_gateway(listen, &ANY, 0) {
         Ok(devices) => {
             live.return_gateway(devices);
             None
@@ -166,7 +172,7 @@ fn is_free<V: Live>(live: &mut V, at: &Peer) -> bool {
 fn an_address_that_is_taken_is_a_fault_until_it_is_free(rt: HostRuntime) -> io::Result<()> {
     let far = FarEnd::new(&rt)?;
     let peer = far.peer;
-    let mut live = HostLive::new(rt, rt.alloc());
+    let mut live = HostLive::new(rt, rt.alloc(), rt.stderr());
     assert!(rt; is_taken(&mut live, &peer) && live.faults() == 2);
     drop(far);
     assert!(rt; is_free(&mut live, &peer) && live.faults() == 2);

@@ -7,7 +7,7 @@ use amt_values::{Ip, Peer};
 use relay_serving::Control;
 use replication_workers::{Outs, Worker, WorkerDone};
 use serving_commands::{
-    DeviceSet, GatewayDevices, Live, MemLive, OpenFault, RelayDevices, SharedCopies,
+    AskedBy, DeviceSet, GatewayDevices, Live, MemLive, OpenFault, RelayDevices, SharedCopies,
 };
 use std::alloc::{AllocError, Global};
 use std::collections::VecDeque;
@@ -28,6 +28,16 @@ const FEED: Peer = Peer {
 const CONTROL: Peer = Peer {
     ip: Ip::V4(0x7f00_0001),
     port: 5001,
+};
+
+const UNASKED: AskedBy = AskedBy {
+    control: None,
+    report_seconds: 0,
+};
+
+const ASKED: AskedBy = AskedBy {
+    control: Some(CONTROL),
+    report_seconds: 0,
 };
 
 // A spawner with no threads: a worker runs when it is joined.
@@ -138,8 +148,8 @@ enum Kind {
 type Answer = Result<Kind, OpenFault>;
 
 // What an opening for a relay hands out, which is given back.
-fn open_relay<R: Wait + Drop>(live: &mut MemSets<R>, control: &Option<Peer>, slots: u32) -> Answer {
-    match live.open_relay(&LISTEN, &FEED, control, slots) {
+fn open_relay<R: Wait + Drop>(live: &mut MemSets<R>, asking: &AskedBy, slots: u32) -> Answer {
+    match live.open_relay(&LISTEN, &FEED, asking, slots) {
         Ok(devices) => {
             let kind = match &devices.control {
                 Some(_) => Kind::Asked(slots),
@@ -154,7 +164,7 @@ fn open_relay<R: Wait + Drop>(live: &mut MemSets<R>, control: &Option<Peer>, slo
 
 // What an opening for a gateway hands out, which is given back.
 fn open_gateway<V: Live>(live: &mut V) -> Answer {
-    match live.open_gateway(&LISTEN, &FEED) {
+    match live.open_gateway(&LISTEN, &FEED, 0) {
         Ok(devices) => {
             live.return_gateway(devices);
             Ok(Kind::Gateway)
@@ -165,8 +175,8 @@ fn open_gateway<V: Live>(live: &mut V) -> Answer {
 
 fn open<R: Wait + Drop>(live: &mut MemSets<R>, kind: &Kind) -> Answer {
     match kind {
-        Kind::Relay(slots) => open_relay(live, &None, *slots),
-        Kind::Asked(slots) => open_relay(live, &Some(CONTROL), *slots),
+        Kind::Relay(slots) => open_relay(live, &UNASKED, *slots),
+        Kind::Asked(slots) => open_relay(live, &ASKED, *slots),
         Kind::Gateway => open_gateway(live),
     }
 }

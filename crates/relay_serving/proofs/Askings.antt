@@ -2,9 +2,9 @@
 use Rattle.std.{proofs.{Common.{◌≡◌, ℕ, ◌+◌, ◌≤◌, ◌<◌, Bool, true, false, ◌||◌, List, [], ◌∷◌, ◌++◌, length, map, refl, sym, subst, ◌∙◌, arith, length-append}, lemmas.{List.{Folds.{list_any-append}, Sums.{count_by-le-length}}}}, specs.{Prelude.{IfErr, IfOk, Option, None, Some, Result, Ok, Err}, List.{list_any}}}
 use Rattle.amt_ports.specs.{Devices.{LinkSeen}, Sends.{TriedSend}, Told.{Answers, Appends}, Tried.{HasTried}, declared.{link.LinkAnswer.{LinkAnswer, TheVariants.{Datagram as LineCame, Closed as LinkClosed}}, out_link.OutLink.{Ghosts}}}
 use Rattle.amt_values.specs.{Conditions.{First}, declared.peer.Peer.{Peer}}
-use Rattle.control_lines.specs.{Answer.{HasReplied, is_answer, sent_to}, Asking.{Asks, Fails, line_of, order_of_reasons}, declared.asking.Asking.{Asking}}
+use Rattle.control_lines.specs.{Answer.{HasAnswer, HasReplied, IsUntried, is_answer, sent_to}, Asking.{Asks, Fails, line_of, order_of_reasons}, declared.asking.Asking.{Asking}}
 use Rattle.script_lines.specs.declared.reason.Reason.{Reason}
-use Rattle.relay_serving.specs.{Asked.{AreAnswered, Asked, EndsRound, Failed, Full, HasAnswer, IsAnswered, IsEnd, IsRead, IsUntried, RoundEnd, Shut, Silent, is_stop, line_more, no_line, refused_among}, AskingServers.{LineSo, NextSo, RoundSo}, Controls.{ControlSeen}}
+use Rattle.relay_serving.specs.{Asked.{AreAnswered, Asked, EndsRound, Failed, Full, IsAnswered, IsEnd, IsRead, RoundEnd, Shut, Silent, is_stop, line_more, no_line, refused_among}, AskingServers.{LineSo, NextSo, RoundSo}, Controls.{ControlSeen}}
 use Rattle.relay_serving.specs.{Replies.{Replying}, Servers.{counts_in}, Traces.{ServerDoes, refusing}, declared.{control.CopyCount.{CopyCount}, server.{Server.{Server}, asking.Answered.{Answered}}}}
 use Rattle.relay_serving.proofs.{Counting.{count_more}, Traces.{alone}}
 

@@ -15,9 +15,8 @@ module _ {O : Type 0} {g : Ghosts O} {T : Type 0} (server : Server O T g) (worke
   abbrev stands : Standing
   stands = record (standing_in turns server) { starved = starved }
 
-  pub numbers_are : (sent unsent inline owed published rows : ℕ) (members : List Row) → sent ≡ sum_within (counts_in server).sent copied.sent → unsent ≡ sum_within (counts_in server).unsent copied.unsent
-      → inline ≡ (if workers == 0 then (counts_in server).packets else 0) → owed ≡ length (owing_in server) → published ≡ length (published_in server) → rows ≡ length members
-      → members ≡ rows_after (settings_in server) (first_in server) (events_in server)
+  pub numbers_are : (sent unsent inline owed published : ℕ) → sent ≡ sum_within (counts_in server).sent copied.sent → unsent ≡ sum_within (counts_in server).unsent copied.unsent
+      → inline ≡ (if workers == 0 then (counts_in server).packets else 0) → owed ≡ length (owing_in server) → published ≡ length (published_in server)
       → record {
         turns = turns;
         datagrams = (counts_in server).datagrams;
@@ -31,9 +30,8 @@ module _ {O : Type 0} {g : Ghosts O} {T : Type 0} (server : Server O T g) (worke
         late = (counts_in server).late;
         owed = owed;
         published = published;
-        rows = rows;
       } ≡ numbers_at (settings_in server) (first_in server) workers stands copied
-  numbers_are sent unsent inline owed published rows members sent_is unsent_is inline_is owed_is_ published_is rows_is are =
+  numbers_are sent unsent inline owed published sent_is unsent_is inline_is owed_is_ published_is =
       let counted = server.counted.events_are in
       let shown = ap length server.shown in
       let all = sym (length-append (published_in server) (owing_in server)) ∙ ap length server.log in
@@ -51,7 +49,6 @@ module _ {O : Type 0} {g : Ghosts O} {T : Type 0} (server : Server O T g) (worke
         late = (counts_in server).late;
         owed = left i;
         published = (published_is ∙ shown) i;
-        rows = (rows_is ∙ ap length are) i;
       }
 
   -- what is told of it answers the line

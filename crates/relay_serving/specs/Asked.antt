@@ -3,7 +3,7 @@ use Rattle.std.specs.Prelude.{◌≡◌, ℕ, ◌+◌, ◌≤◌, ◌<◌, Bool,
 use Rattle.std.specs.List.{list_any}
 use Rattle.amt_ports.specs.{Causes.{Rose}, Devices.{AnswersAll, LinkSeen}, Told.{Answers, Appends}, declared.link.LinkAnswer.{LinkAnswer, TheVariants.{Datagram as LineCame, Nothing as NothingCame, Closed as LinkClosed}}}
 use Rattle.amt_values.specs.{Conditions.{First}, declared.peer.Peer.{Peer}}
-use Rattle.control_lines.specs.{Answer.{HasReplied, is_answer}, Asking.{Asks, Fails, line_of, order_of_reasons}, declared.asking.Asking.{Asking, TheVariants.{Counts, Show, ShowOf, Stop}}}
+use Rattle.control_lines.specs.{Answer.{HasAnswer, IsUntried, is_answer}, Asking.{Asks, Fails, line_of, order_of_reasons}, declared.asking.Asking.{Asking, TheVariants.{Counts, Show, ShowOf, Stop}}}
 use Rattle.script_lines.specs.declared.reason.Reason.{Reason}
 use Rattle.relay_serving.specs.{Controls.{ControlSeen}, Replies.{Replying}, declared.control.CopyCount.{CopyCount}}
 
@@ -31,18 +31,6 @@ is_stop (Err reason) = false
 
 abbrev pub refused_among : List Asked → ℕ
 refused_among asked = count_by (λ one. one.starved) asked
-
--- nothing was tried
-pub record IsUntried (before after : LinkSeen) : Type 0 where
-  pub same_tried : after.tried ≡ before.tried
-  pub same_faults : after.send_faults ≡ before.send_faults
-
--- Exactly this text was tried to whoever asked, or nothing where memory refused it. A line that is itself an answer is
--- answered by nothing, so that two controls never answer one another for ever.
-abbrev pub HasAnswer : (itself starved : Bool) → Peer → List ℕ → LinkSeen → LinkSeen → Type 0
-HasAnswer true starved from text before after = (starved ≡ false) × IsUntried before after
-HasAnswer false true from text before after = IsUntried before after
-HasAnswer false false from text before after = HasReplied from text before after
 
 -- the line was the next that came, and was answered by this text
 pub record IsAnswered (text : Result Asking Reason → CopyCount → List ℕ) (one : Asked) (before after : ControlSeen) : Type 0 where

@@ -2,9 +2,9 @@
 use Rattle.std.specs.Prelude.{◌≡◌, ℕ, ◌+◌, ◌*◌, Bool, false, List, length, sum_by, Option, None, Some, Result}
 use Rattle.amt_ports.specs.{Told.{Appends}, declared.out_link.OutLink.{Ghosts}}
 use Rattle.amt_values.specs.declared.peer.Peer.{Peer}
-use Rattle.control_lines.specs.{Answer.{is_answer}, declared.asking.Asking.{Asking}}
+use Rattle.control_lines.specs.{Answer.{HasAnswer, is_answer}, declared.asking.Asking.{Asking}}
 use Rattle.script_lines.specs.declared.reason.Reason.{Reason}
-use Rattle.relay_serving.specs.{Asked.{Asked, EndsRound, HasAnswer, IsAnswered, IsEnd, IsRead, IsRound, Round, RoundEnd, is_stop, is_stopped, refused_in}, Controls.{ControlSeen}, Counting.{one_if, starved_in}, Replies.{Replying, Standing, replies_at}, declared.control.CopyCount.{CopyCount}}
+use Rattle.relay_serving.specs.{Asked.{Asked, EndsRound, IsAnswered, IsEnd, IsRead, IsRound, Round, RoundEnd, is_stop, is_stopped, refused_in}, Controls.{ControlSeen}, Counting.{one_if, starved_in}, Replies.{Replying, Standing, replies_at}, declared.control.CopyCount.{CopyCount}}
 use Rattle.relay_serving.specs.{Servers.{counts_in, first_in, happenings_in, settings_in}, Traces.{ServerDoes, Trace, in_turns, nothing, refusing}, Turns.{Turn}, declared.server.{Server.{Server}, asking.Answered.{Answered}}}
 
 -- turns, before which this moment was the latest, and after them this number of answers that memory refused

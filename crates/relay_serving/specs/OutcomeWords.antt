@@ -1,6 +1,6 @@
 -- The words by which outcomes are counted: of each, the first that a replay prints of it.
-use Rattle.std.specs.Prelude.{◌≡◌, ℕ, ◌<◌, ◌^◌, List, [], ◌∷◌, ◌++◌, codes, length, map, Result, Ok, Err}
-use Rattle.control_lines.specs.Tally.{numbers_of}
+use Rattle.std.specs.Prelude.{◌≡◌, ℕ, List, [], ◌∷◌, codes, map, Result, Ok, Err}
+use Rattle.control_lines.specs.Tally.{HasCounted, numbers_of}
 use Rattle.inner_datagrams.specs.declared.head.Head.{Head}
 use Rattle.response_mac.specs.declared.secret.Secret.{Secret}
 use Rattle.relay_machine.specs.{Courses.{outcomes_of}, declared.{event.Event.{Event}, settings.Settings.{Settings}}}
@@ -37,13 +37,9 @@ abbrev pub packet_word : Result Head Outcome → List ℕ
 packet_word (Ok head) = codes "copied"
 packet_word (Err outcome) = word_of outcome
 
--- these are the numbers of fewer words than can be counted
-abbrev pub IsTallyOfFew : List ℕ → Type 0
-IsTallyOfFew numbers = (said : List (List ℕ)) × (numbers ≡ numbers_of outcome_words said) × (length said < 2 ^ 62)
-
--- one word more is counted, whatever was so far
-pub record HasCounted (word : List ℕ) (before after : Outcomes) : Type 0 where
-  pub numbers : (said : List (List ℕ)) → before.tally ≡ numbers_of outcome_words said → after.tally ≡ numbers_of outcome_words (said ++ word ∷ [])
+-- one word more is counted
+pub record CountsWord (word : List ℕ) (before after : Outcomes) : Type 0 where
+  pub numbers : HasCounted outcome_words word before.tally after.tally
   pub same_limit : after.limit ≡ before.limit
 
 -- the words of what these events came to are counted, each in its place

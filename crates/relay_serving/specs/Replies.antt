@@ -1,9 +1,9 @@
 -- The texts by which a running relay answers lines, by where it stands.
-use Rattle.std.specs.Prelude.{ℕ, ◌+◌, ◌-◌, ◌^◌, ◌==◌, ◌&&◌, min, List, [], ◌∷◌, ◌++◌, codes, count_by, decimal, length, map, Option, None, Some, Result, Ok, Err, if◌then◌else◌}
+use Rattle.std.specs.Prelude.{ℕ, ◌+◌, ◌-◌, ◌^◌, ◌==◌, ◌&&◌, min, List, [], ◌∷◌, ◌++◌, codes, count_by, length, map, Option, None, Some, Result, Ok, Err, if◌then◌else◌}
 use Rattle.std.specs.List.{filter, flat_map}
 use Rattle.amt_values.specs.{Endpoint.{endpoint_of}, EndpointValue.{EndpointValue}}
 use Rattle.amt_script.specs.Texts.{row_text}
-use Rattle.control_lines.specs.{Answer.{bad_text}, Tally.{numbers_of, tally_text}, declared.asking.Asking.{Asking, TheVariants.{Counts, Show, ShowOf, Stop}}}
+use Rattle.control_lines.specs.{Answer.{bad_text}, Tally.{number_line, numbers_of, tally_text}, declared.asking.Asking.{Asking, TheVariants.{Counts, Show, ShowOf, Stop}}}
 use Rattle.endpoint_membership.specs.declared.{change.Change.{Change}, row.Row.{Row}}
 use Rattle.response_mac.specs.declared.secret.Secret.{Secret}
 use Rattle.script_lines.specs.declared.reason.Reason.{Reason}
@@ -19,10 +19,6 @@ pub record Standing : Type 0 where
   pub unsent : ℕ
   pub starved : ℕ
   pub late : ℕ
-
--- `WORD N`
-abbrev pub number_line : List ℕ → ℕ → List ℕ
-number_line word number = word ++ (codes " " ++ (decimal number ++ (10 ∷ [])))
 
 -- a sum, or the greatest number that is written
 abbrev pub sum_within : ℕ → ℕ → ℕ
@@ -52,22 +48,21 @@ sent_text numbers =
     ++ (number_line (codes "unsent") numbers.unsent
     ++ number_line (codes "inline") numbers.inline)
 
--- what became of events and entries, and what there is: `starved N`, `late N`, `owed N`, `published N` and `rows N`
+-- what became of events and entries: `starved N`, `late N`, `owed N` and `published N`
 unfoldable pub kept_text : Numbers → List ℕ
 kept_text numbers =
     number_line (codes "starved") numbers.starved
     ++ (number_line (codes "late") numbers.late
     ++ (number_line (codes "owed") numbers.owed
-    ++ (number_line (codes "published") numbers.published
-    ++ number_line (codes "rows") numbers.rows)))
+    ++ number_line (codes "published") numbers.published))
 
 abbrev pub numbers_text : Numbers → List ℕ
 numbers_text numbers = taken_text numbers ++ (sent_text numbers ++ kept_text numbers)
 
--- what is told to whoever asks for it, by the memberships, the numbers, and how often each word was that of an outcome,
--- which is told by a line `= WORD N`
+-- what is told to whoever asks for it, by the memberships, whose number is told by `rows N`, the numbers, and how often
+-- each word was that of an outcome, which is told by a line `= WORD N`
 abbrev pub told_text : Asking → List Row → Numbers → List ℕ → List ℕ
-told_text Counts rows numbers tally = numbers_text numbers ++ tally_text outcome_words tally
+told_text Counts rows numbers tally = numbers_text numbers ++ (number_line (codes "rows") (length rows) ++ tally_text outcome_words tally)
 told_text Show rows numbers tally = rows_text rows
 told_text (ShowOf peer) rows numbers tally = rows_text (rows_at (endpoint_of peer) rows)
 told_text Stop rows numbers tally = []
@@ -111,7 +106,6 @@ module _ (settings : Settings) (first : Secret) (workers : ℕ) where
     late = standing.late;
     owed = length (log_at standing) - length (shown_at standing);
     published = length (shown_at standing);
-    rows = length (members_at standing);
   }
 
   -- what answers a line that was read so, where the copies were counted so

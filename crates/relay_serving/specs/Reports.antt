@@ -1,7 +1,7 @@
 -- What a report says of what a running relay left.
 use Rattle.std.specs.Prelude.{ℕ, ◌+◌}
 use Rattle.amt_ports.specs.declared.end.End.{End}
-use Rattle.relay_serving.specs.declared.{plan.ServeReport.{ServeReport}, server.ending.Ending.{Ending}}
+use Rattle.relay_serving.specs.declared.{numbers.Numbers.{Numbers}, plan.ServeReport.{ServeReport}, server.ending.Ending.{Ending}}
 
 -- of a run that had no turn
 abbrev pub unused_report : End → ServeReport
@@ -39,4 +39,21 @@ report_of end turns ending = record {
   owed = ending.owed;
   published = ending.published;
   apart = ending.apart;
+}
+
+-- its numbers that a running relay tells too
+abbrev pub numbers_in : ServeReport → Numbers
+numbers_in report = record {
+  turns = report.turns;
+  datagrams = report.datagrams;
+  packets = report.packets;
+  updated = report.updated;
+  torn = report.torn;
+  sent = report.sent;
+  unsent = report.unsent;
+  inline = report.inline;
+  starved = report.starved;
+  late = report.late;
+  owed = report.owed;
+  published = report.published;
 }

@@ -1,8 +1,10 @@
-//! The numbers of a running relay, as its answers to lines have them.
+//! The numbers of a running relay, as its answers to lines and its report have them.
 ghost use Rattle.std.specs.Prelude.{◌≡◌, ◌++◌, OnOk};
-ghost use Rattle.relay_serving.specs.Replies.{kept_text, number_line, numbers_text, sent_text, taken_text};
+ghost use Rattle.relay_serving.specs.{Replies.{kept_text, numbers_text, sent_text, taken_text}, Reports.{numbers_in}};
 
+use crate::plan::ServeReport;
 use amt_values::Bytes;
+use control_lines::append_number;
 use std::alloc::AllocError;
 
 /// Numbers of a running relay.
@@ -24,16 +26,6 @@ pub struct Numbers {
     /// The entries that aren't published yet, and those that are.
     pub owed: u64,
     pub published: u64,
-    /// The memberships.
-    pub rows: u64,
-}
-
-// Puts the line `WORD N` at the end.
-fn append_number(text: &mut Bytes, word: &str, number: u64) -> Result<(), AllocError>
-    ensures { OnOk result (text.new ≡ text.old ++ number_line word.now number) }
-{
-    write!(text, "{word} {number}\n")?;
-    Ok(())
 }
 
 // What came in.
@@ -58,7 +50,7 @@ fn append_sent(text: &mut Bytes, numbers: &Numbers) -> Result<(), AllocError>
     append_number(text, "inline", numbers.inline)
 }
 
-// What became of events and entries, and what there is.
+// What became of events and entries.
 #[tactic(auto, unfolding(crate::specs::Replies::kept_text))]
 fn append_kept(text: &mut Bytes, numbers: &Numbers) -> Result<(), AllocError>
     ensures { OnOk result (text.new ≡ text.old ++ kept_text numbers.now) }
@@ -66,8 +58,7 @@ fn append_kept(text: &mut Bytes, numbers: &Numbers) -> Result<(), AllocError>
     append_number(text, "starved", numbers.starved)?;
     append_number(text, "late", numbers.late)?;
     append_number(text, "owed", numbers.owed)?;
-    append_number(text, "published", numbers.published)?;
-    append_number(text, "rows", numbers.rows)
+    append_number(text, "published", numbers.published)
 }
 
 impl Numbers {
@@ -78,5 +69,34 @@ impl Numbers {
         append_taken(text, self)?;
         append_sent(text, self)?;
         append_kept(text, self)
+    }
+}
+
+impl ServeReport {
+    // Those of the report that a running relay tells too.
+    fn numbers(&self) -> Numbers
+        ensures { result ≡ numbers_in self.now }
+    {
+        Numbers {
+            turns: self.turns,
+            datagrams: self.datagrams,
+            packets: self.packets,
+            updated: self.updated,
+            torn: self.torn,
+            sent: self.sent,
+            unsent: self.unsent,
+            inline: self.inline,
+            starved: self.starved,
+            late: self.late,
+            owed: self.owed,
+            published: self.published,
+        }
+    }
+
+    /// Puts a line for each of its numbers at the end, but for the views apart, of which a running relay tells none.
+    pub fn append_numbers(&self, text: &mut Bytes) -> Result<(), AllocError>
+        ensures { OnOk result (text.new ≡ text.old ++ numbers_text (numbers_in self.now)) }
+    {
+        self.numbers().append(text)
     }
 }

@@ -3,8 +3,8 @@ ghost use Rattle.std.specs.{Prelude.{◌≡◌, ◌≤◌, ◌<◌, ◌++◌, �
 ghost use Rattle.relay_machine.specs.{Packets.{by_head, head_to_copy}, declared.outcome.Outcome.{Outcome as OutcomeValue}};
 ghost use Rattle.inner_datagrams.specs.Head.{head_of};
 ghost use Rattle.amt_script.specs.Texts.{outcome_text};
-ghost use Rattle.control_lines.specs.Tally.{BeginsWithWord, numbers_of, tally_text};
-ghost use Rattle.relay_serving.specs.OutcomeWords.{HasCounted, IsTallyOfFew, outcome_words, packet_word, word_of};
+ghost use Rattle.control_lines.specs.Tally.{BeginsWithWord, IsTallyOfFew, numbers_of, tally_text};
+ghost use Rattle.relay_serving.specs.OutcomeWords.{CountsWord, outcome_words, packet_word, word_of};
 
 use amt_values::{Bytes, forwardable};
 use control_lines::{Tally, append_tally};
@@ -112,16 +112,16 @@ impl Outcomes {
     // Counts the word at this place.
     fn count_at(&mut self, place: usize)
         requires within { place < length outcome_words }
-        requires few { IsTallyOfFew self.old.tally }
-        ensures counts { (word : List ℕ) → slice_get outcome_words place ≡ Some word → HasCounted word self.old self.new }
+        requires few { IsTallyOfFew outcome_words self.old.tally }
+        ensures counts { (word : List ℕ) → slice_get outcome_words place ≡ Some word → CountsWord word self.old self.new }
     {
         self.tally.count(place);
     }
 
     /// Counts an outcome.
     pub(crate) fn count(&mut self, outcome: &Outcome)
-        requires few { IsTallyOfFew self.old.tally }
-        ensures { HasCounted (word_of outcome.now) self.old self.new }
+        requires few { IsTallyOfFew outcome_words self.old.tally }
+        ensures { CountsWord (word_of outcome.now) self.old self.new }
     {
         self.count_at(place_of(outcome));
     }
@@ -136,8 +136,8 @@ impl Outcomes {
     /// Counts the outcome of a packet.
     pub(crate) fn count_packet(&mut self, packet: &[u8])
         requires short { length packet.now ≤ 65535 }
-        requires few { IsTallyOfFew self.old.tally }
-        ensures { HasCounted (packet_word (head_to_copy self.old.limit packet.now)) self.old self.new }
+        requires few { IsTallyOfFew outcome_words self.old.tally }
+        ensures { CountsWord (packet_word (head_to_copy self.old.limit packet.now)) self.old self.new }
     {
         self.count_at(packet_place(self.limit, packet));
     }

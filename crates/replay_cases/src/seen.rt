@@ -97,8 +97,16 @@ pub fn sends_text<R>(alloc: Global, live: &Sets<'_, R>) -> Result<String, AllocE
 // Where a control socket is asked for, if one is.
 fn append_control(text: &mut String, control: &Option<Peer>) -> Result<(), AllocError> {
     match control {
-        Some(peer) => write!(text, " control {peer}\n"),
-        None => text.push_str("\n"),
+        Some(peer) => write!(text, " control {peer}"),
+        None => Ok(()),
+    }
+}
+
+// How often an end is to ask itself, if it is, and the end of the line.
+fn append_report(text: &mut String, seconds: u32) -> Result<(), AllocError> {
+    match seconds {
+        0 => text.push_str("\n"),
+        _ => write!(text, " report {seconds}\n"),
     }
 }
 
@@ -107,13 +115,21 @@ fn append_opening(text: &mut String, opening: &Opening) -> Result<(), AllocError
         Opening::Relay {
             listen,
             feed,
-            control,
+            asking,
             slots,
         } => {
             write!(text, "open relay {listen} {feed} {slots}")?;
-            append_control(text, control)
+            append_control(text, &asking.control)?;
+            append_report(text, asking.report_seconds)
         }
-        Opening::Gateway { listen, control } => write!(text, "open gateway {listen} {control}\n"),
+        Opening::Gateway {
+            listen,
+            control,
+            report_seconds,
+        } => {
+            write!(text, "open gateway {listen} {control}")?;
+            append_report(text, *report_seconds)
+        }
     }
 }
 

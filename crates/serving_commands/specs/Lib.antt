@@ -2,6 +2,7 @@ pub mod DeviceSets
 pub mod GatewayOpenings
 pub mod GatewayRunning
 pub mod GatewayTexts
+pub mod Journaled
 pub mod Kinds
 pub mod Lives
 pub mod MemLive
@@ -12,5 +13,6 @@ pub mod RelayPlans
 pub mod RelayRunning
 pub mod RelayTexts
 pub mod Seen
+pub mod SetRuns
 pub mod Sets
 pub mod Texts

@@ -1,7 +1,7 @@
 -- A run of a relay on devices that are opened for it.
 use Rattle.std.specs.Prelude.{◌≡◌, ℕ, List, is_some, length, Option}
 use Rattle.amt_config.specs.{Relay.{settings_of}, declared.config.RelayConfig.{RelayConfig}}
-use Rattle.serving_commands.specs.{declared.opening.{devices.DeviceSet.TheVariants.{Relay as OfRelay}, live.Live.{Ghosts as LiveTells}}, RelayOpenings.{opening_by, slots_of}, RelayPlans.{plan_by}, Kinds.{relay_file}, Openings.{IsLent}, Reading.{IsConfigured}, Seen.{RelaySeen}}
+use Rattle.serving_commands.specs.{declared.opening.{devices.DeviceSet.TheVariants.{Relay as OfRelay}, live.Live.{Ghosts as LiveTells}}, RelayOpenings.{asking_of, opening_by, slots_of}, RelayPlans.{plan_by}, Kinds.{relay_file}, Openings.{IsLent}, Reading.{IsConfigured}, Seen.{RelaySeen, is_asked}}
 use Rattle.published_table.specs.declared.view.View.{View}
 use Rattle.relay_serving.specs.{Serving.{Serves}, declared.plan.{ServePlan.{ServePlan}, ServeReport.{ServeReport}}}
 
@@ -14,7 +14,7 @@ module _ {V R G : Type 0} (live : LiveTells V R G) (seen : R → RelaySeen) wher
     pub left : R
     pub lent : IsLent live (opening_by config plan) (OfRelay opened) (OfRelay left) before after
     pub outs : length (seen opened).outs ≡ slots_of plan
-    pub control : is_some (seen opened).control ≡ is_some config.control
+    pub control : is_some (seen opened).control ≡ is_asked (asking_of config)
     -- the run
     pub views : List View
     pub serves : Serves (settings_of config) plan (seen opened).devices (seen left).devices

@@ -1,5 +1,5 @@
 -- What is written of a run, and of a settings file with a fault.
-use Rattle.std.specs.Prelude.{ℕ, List, [], ◌∷◌, ◌++◌, codes, decimal}
+use Rattle.std.specs.Prelude.{ℕ, List, [], ◌∷◌, ◌++◌, codes}
 use Rattle.amt_config.specs.declared.fault.ConfigFault.{ConfigFault}
 use Rattle.amt_config.specs.declared.fault.ConfigFault.TheVariants as faults
 use Rattle.amt_ports.specs.declared.end.End.{End, TheVariants.{Turns, Closed}}
@@ -15,13 +15,9 @@ abbrev pub end_word : End → List ℕ
 end_word Turns = codes "turns"
 end_word end = codes "closed"
 
--- a name and its count on a line
-abbrev pub count_line : List ℕ → ℕ → List ℕ
-count_line name count = name ++ (codes " " ++ (decimal count ++ (10 ∷ [])))
-
--- how each report begins: `end turns` or `end closed`, and `turns N`
-unfoldable pub head_text : End → ℕ → List ℕ
-head_text end turns = (codes "end " ++ (end_word end ++ (10 ∷ []))) ++ count_line (codes "turns") turns
+-- how each report begins: `end turns` or `end closed`
+abbrev pub end_text : End → List ℕ
+end_text end = codes "end " ++ (end_word end ++ (10 ∷ []))
 
 -- `amt: settings: FAULT KEY`
 abbrev pub key_line : List ℕ → List ℕ → List ℕ

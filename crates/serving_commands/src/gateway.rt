@@ -5,6 +5,7 @@
 //! It knows no status, and of devices and files no more than their traits.
 mod report;
 mod running;
+mod serving;
 
 pub use report::report_text;
 pub use running::run_gateway;

@@ -19,10 +19,10 @@ mod settings;
 pub use fault::ServingFault;
 pub use kinds::FromSettings;
 pub use opening::{
-    CountedOut, DeviceSet, GatewayDevices, GatewayRan, GatewaySet, HostGateway, HostLive, HostOut,
-    HostRelay, Live, MemLive, OpenFault, Opening, RelayDevices, RelayRan, RelaySet, SharedCopies,
-    WorkerThreads,
+    AskedBy, CountedOut, DeviceSet, GatewayDevices, GatewaySet, HostControl, HostGateway, HostLive,
+    HostOut, HostRelay, JournaledControl, Live, MemLive, OnGateway, OnRelay, OpenFault, Opening,
+    RelayDevices, RelaySet, SharedCopies, Used, WorkerThreads,
 };
 pub use reading::read_settings;
-pub use report::report_head;
+pub use report::end_text;
 pub use settings::settings_line;

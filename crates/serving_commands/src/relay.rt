@@ -6,6 +6,7 @@
 mod plan;
 mod report;
 mod running;
+mod serving;
 
 pub use report::report_text;
 pub use running::run_relay;

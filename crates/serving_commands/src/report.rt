@@ -1,6 +1,6 @@
-//! The lines with which the report of a run begins. It knows no count but that of turns.
+//! The line with which the report of a run begins. It knows no count.
 ghost use Rattle.std.specs.Prelude.{◌≡◌, IfOk};
-ghost use Rattle.serving_commands.specs.Texts.{IsDone, end_word, head_text};
+ghost use Rattle.serving_commands.specs.Texts.{IsDone, end_text, end_word};
 
 use amt_ports::End;
 use amt_values::Bytes;
@@ -16,14 +16,13 @@ fn end_word(end: End) -> &'static str
     }
 }
 
-/// A line for the end of a run, and one for the turns that were done.
-#[tactic(auto, unfolding(crate::specs::Texts::head_text))]
-pub fn report_head(alloc: Global, end: End, turns: u64) -> Result<Bytes, AllocError>
+/// The line of the end of a run.
+pub fn end_text(alloc: Global, end: End) -> Result<Bytes, AllocError>
     requires done { IsDone end }
-    ensures { IfOk result (λ text. text ≡ head_text end turns) }
+    ensures { IfOk result (λ text. text ≡ end_text end) }
 {
-    let mut text = Bytes::new(alloc);
-    write!(text, "end {}\n", end_word(end))?;
-    write!(text, "turns {turns}\n")?;
+    let mut text = Bytes::copied(alloc, b"end ")?;
+    text.append(end_word(end).as_bytes())?;
+    text.append(b"\n")?;
     Ok(text)
 }

@@ -1,8 +1,8 @@
 //! How a running gateway answers the lines of a turn after it.
 ghost use Rattle.std.specs.Prelude.{◌≡◌, ◌<◌, ◌+◌, ◌^◌, IfOk, OnErr, OnOk, length};
 ghost use Rattle.amt_ports.specs.Devices.{link_at, out_at};
-ghost use Rattle.control_lines.specs.Answer.{HasReplied};
-ghost use Rattle.gateway_serving.specs.{Answering.{AnswersEach, AnswersOne, IsUnheard, LeavesSo, waiting_in}, Askers.{IsUntried}, Replies.{reply_text}, Servers.{settings_in, setup_in, standing_in, tally_in}, Stages.{EndsTurnBy}, Traces.{at_control, at_work}};
+ghost use Rattle.control_lines.specs.Answer.{IsUntried, HasReplied};
+ghost use Rattle.gateway_serving.specs.{Answering.{AnswersEach, AnswersOne, IsUnheard, LeavesSo, waiting_in}, Replies.{reply_text}, Servers.{settings_in, setup_in, standing_in, tally_in}, Stages.{EndsTurnBy}, Traces.{at_control, at_work}};
 
 use super::Server;
 use crate::askers::{Asker, Askers};

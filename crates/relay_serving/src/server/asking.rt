@@ -1,8 +1,8 @@
 //! How lines that ask a running relay for something are answered.
 ghost use Rattle.std.specs.Prelude.{◌≡◌, ◌≤◌, ◌<◌, ◌+◌, ◌^◌, ◌||◌, IfOk, length, is_err};
 ghost use Rattle.amt_ports.specs.Devices.{link_at};
-ghost use Rattle.control_lines.specs.Answer.{is_answer};
-ghost use Rattle.relay_serving.specs.{Asked.{HasAnswer, is_stop}, AskingServers.{AsksSo, LineSo, NextSo, RoundSo}, Controls.{control_at, controls_at}, Counting.{one_if}, Replies.{Replying}, Servers.{tally_in}};
+ghost use Rattle.control_lines.specs.Answer.{HasAnswer, is_answer};
+ghost use Rattle.relay_serving.specs.{Asked.{is_stop}, AskingServers.{AsksSo, LineSo, NextSo, RoundSo}, Controls.{control_at, controls_at}, Counting.{one_if}, Replies.{Replying}, Servers.{tally_in}};
 
 use super::Server;
 use super::replying::Held;

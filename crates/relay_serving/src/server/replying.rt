@@ -1,8 +1,8 @@
 //! The texts by which a running relay answers lines.
-ghost use Rattle.std.specs.Prelude.{◌≡◌, ◌==◌, ◌&&◌, ◌++◌, Some, IfOk, OnOk, if◌then◌else◌};
+ghost use Rattle.std.specs.Prelude.{◌≡◌, ◌==◌, ◌&&◌, ◌++◌, Some, codes, IfOk, OnOk, if◌then◌else◌};
 ghost use Rattle.amt_values.specs.Endpoint.{endpoint_of};
 ghost use Rattle.relay_serving.specs.{AskingServers.{standing_in}, OutcomeWords.{outcome_words}, Replies.{numbers_text, reply_text, rows_at, rows_text, told_text}, Servers.{first_in, settings_in}};
-ghost use Rattle.control_lines.specs.{Answer.{bad_text}, Tally.{tally_text}};
+ghost use Rattle.control_lines.specs.{Tally.{number_line, tally_text}};
 
 use super::Server;
 use super::asking::Replies;
@@ -12,7 +12,7 @@ use crate::outcomes::Outcomes;
 use amt_ports::OutLink;
 use amt_script::append_row;
 use amt_values::{Bytes, Endpoint, Peer};
-use control_lines::{Asking, append_bad};
+use control_lines::{Asking, append_number, bad_text};
 use endpoint_membership::Row;
 use script_lines::Reason;
 use std::alloc::{AllocError, Global};
@@ -45,21 +45,19 @@ fn append_rows_of(text: &mut Bytes, rows: &[Row], endpoint: &Endpoint) -> Result
     Ok(())
 }
 
-// The line of a line that asks for nothing.
-fn bad_text(alloc: Global, reason: Reason) -> Result<Bytes, AllocError>
-    ensures { IfOk result (λ text. text ≡ bad_text reason) }
-{
-    let mut text = Bytes::new(alloc);
-    append_bad(&mut text, reason)?;
-    Ok(text)
-}
-
-// The answer to `counts`.
-fn counts_text(alloc: Global, numbers: &Numbers, outcomes: &Outcomes) -> Result<Bytes, AllocError>
-    ensures { IfOk result (λ text. text ≡ numbers_text numbers.now ++ tally_text outcome_words outcomes.now.tally) }
+// The answer to `counts`, where there is this number of memberships.
+fn counts_text(
+    alloc: Global,
+    rows: usize,
+    numbers: &Numbers,
+    outcomes: &Outcomes,
+) -> Result<Bytes, AllocError>
+    ensures { IfOk result (λ text. text ≡ numbers_text numbers.now
+        ++ (number_line (codes "rows") rows ++ tally_text outcome_words outcomes.now.tally)) }
 {
     let mut text = Bytes::new(alloc);
     numbers.append(&mut text)?;
+    append_number(&mut text, "rows", rows as u64)?;
     outcomes.append(&mut text)?;
     Ok(text)
 }
@@ -96,7 +94,7 @@ fn told_text(
     ensures { IfOk result (λ text. text ≡ told_text asking.now rows.now numbers.now outcomes.now.tally) }
 {
     match asking {
-        Asking::Counts => counts_text(alloc, numbers, outcomes),
+        Asking::Counts => counts_text(alloc, rows.len(), numbers, outcomes),
         Asking::Show => show_text(alloc, rows),
         Asking::ShowOf(peer) => show_text_of(alloc, rows, peer),
         Asking::Stop => Ok(Bytes::new(alloc)),
@@ -148,7 +146,6 @@ impl<O: OutLink + Drop, T> Replies for Held<'_, O, T> {
                     late: counts.late,
                     owed: server.publisher.owed(),
                     published: server.publisher.published(),
-                    rows: rows.len() as u64,
                 };
                 told_text(alloc, asking, rows.as_slice(), &numbers, &server.outcomes)
             }

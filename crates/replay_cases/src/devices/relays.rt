@@ -6,11 +6,9 @@ use amt_ports::{
     Clock, Feed, Link, MemClock, MemFeed, MemLink, MemOut, MemWords, OutLink, Spawner as Spawns,
     Words,
 };
-use relay_machine::Settings;
-use relay_serving::{Copies, MemCopies, ServePlan};
+use relay_serving::{Copies, MemCopies};
 use replication_workers::Worker;
-use serving_commands::{RelayDevices, RelayRan, RelaySet};
-use std::alloc::Global;
+use serving_commands::{OnRelay, RelayDevices, RelaySet, Used};
 use std::sync::Wait;
 use std::thread::Threads;
 
@@ -39,23 +37,12 @@ impl<'a, R: Threads + Wait + 'static> RelaySet for OfRelay<'a, R> {
         self.devices.is_for(slots, asked)
     }
 
-    fn serve<W: Wait>(
-        self,
-        rt: &W,
-        alloc: Global,
-        settings: Settings,
-        plan: &ServePlan,
-    ) -> RelayRan<Self> {
+    fn lend<T: OnRelay, W: Wait>(self, rt: &W, to: T) -> Used<OfRelay<'a, R>, T::Given> {
         let OfRelay { devices } = self;
-        let RelayRan {
-            devices,
-            report,
-            views,
-        } = devices.serve(rt, alloc, settings, plan);
-        RelayRan {
+        let Used { devices, given } = to.go_on(rt, devices);
+        Used {
             devices: OfRelay { devices },
-            report,
-            views,
+            given,
         }
     }
 }

@@ -5,7 +5,8 @@ ghost use Rattle.serving_commands.specs.{GatewayOpenings.{IsRefusedBy, opening_b
 ghost use Rattle.gateway_serving.specs.Settings.{AreTurns, IsLawfulConfig};
 
 use crate::fault::ServingFault;
-use crate::opening::{GatewayRan, GatewaySet, Live, OpenFault};
+use crate::gateway::serving::serve_on;
+use crate::opening::{Live, OpenFault, Used};
 use crate::reading::read_settings;
 use amt_config::GatewayConfig;
 use amt_ports::Files;
@@ -29,13 +30,14 @@ fn run_by<V: Live>(
     ensures quiet { ¬ IsErrOf result OpenFault.Failed
         → V.faults live.new ≡ V.faults live.old }
 {
-    let devices = match live.open_gateway(&config.listen, &config.control) {
+    let report_seconds = config.report_seconds;
+    let devices = match live.open_gateway(&config.listen, &config.control, report_seconds) {
         Ok(devices) => devices,
         Err(fault) => return Err(fault),
     };
-    let GatewayRan { devices, report } = devices.serve(alloc, config, turns);
+    let Used { devices, given } = serve_on(alloc, config, turns, devices);
     live.return_gateway(devices);
-    Ok(report)
+    Ok(given)
 }
 
 /// Runs a gateway by the settings file of this name, for so many turns at most.

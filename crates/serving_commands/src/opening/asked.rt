@@ -6,6 +6,28 @@ use amt_values::Peer;
 use std::alloc::{AllocError, Global};
 use std::marker::Model;
 
+/// Who asks a running relay.
+#[derive(Clone, Copy, Debug, PartialEq, Eq)]
+pub struct AskedBy {
+    /// Where a control socket takes lines, if one is wanted.
+    pub control: Option<Peer>,
+    /// The least seconds from one line of counts on standard error to the next, for which it asks itself; 0
+    /// where it doesn't.
+    pub report_seconds: u32,
+}
+
+impl AskedBy {
+    ghost use Rattle.std.specs.Prelude.{◌≡◌};
+    ghost use Rattle.serving_commands.specs.Seen.{is_asked};
+
+    /// Whether anybody does.
+    pub fn is_wanted(&self) -> bool
+        ensures { result ≡ is_asked self.now }
+    {
+        self.control.is_some() || self.report_seconds > 0
+    }
+}
+
 /// An opening, with what was asked of it.
 #[derive(Clone, Copy, Debug, PartialEq, Eq)]
 pub enum Opening {
@@ -15,8 +37,8 @@ pub enum Opening {
         listen: Peer,
         /// Where the feed takes packets.
         feed: Peer,
-        /// Where a control socket takes lines, if one is wanted.
-        control: Option<Peer>,
+        /// Who asks it.
+        asking: AskedBy,
         /// So many links out.
         slots: u32,
     },
@@ -24,8 +46,10 @@ pub enum Opening {
     Gateway {
         /// Where the link listens for datagrams.
         listen: Peer,
-        /// Where the feed takes control lines.
+        /// Where its control socket takes lines.
         control: Peer,
+        /// The seconds from one line of counts to the next; 0 where there is none.
+        report_seconds: u32,
     },
 }
 

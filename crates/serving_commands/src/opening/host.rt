@@ -1,14 +1,17 @@
 //! The devices of the machine.
 ghost use Rattle.std.specs.Prelude.{◌≡◌, ◌≤◌, IfOk, IsErrOf, None, is_some, length};
 ghost use Rattle.amt_ports.specs.Causes.{Rose};
+ghost use Rattle.serving_commands.specs.Seen.{is_asked};
 
+use crate::opening::asked::AskedBy;
 use crate::opening::counted::{CountedOut, SharedCopies};
 use crate::opening::devices::{GatewayDevices, RelayDevices};
-use crate::opening::host_sets::{HostGateway, HostOut, HostRelay, WorkerThreads};
+use crate::opening::host_sets::{HostControl, HostGateway, HostOut, HostRelay, WorkerThreads};
+use crate::opening::journaled::JournaledControl;
 use crate::opening::live::{Live, OpenFault};
 use amt_ports::{
-    HostClock, HostWords, ThreadSpawner, UdpControl, UdpLink, open_control, open_gateway_sockets,
-    open_sockets,
+    HostClock, HostWords, ThreadSpawner, UdpControl, UdpLink, WriterSink, open_control,
+    open_gateway_sockets, open_sockets,
 };
 use amt_values::Peer;
 use relay_serving::Control;
@@ -16,6 +19,7 @@ use replication_workers::Outs;
 use std::alloc::Global;
 use std::fs;
 use std::fs::Files;
+use std::io::Stderr;
 use std::net::Net;
 use std::random::RandomSource;
 use std::sync::Wait;
@@ -26,22 +30,24 @@ use std::time::Clock;
 // each: on time that is some 900 wakings a second, and with this 250.
 const TIMER_SLACK: &str = "3000000";
 
-/// The sockets, clock, random words and threads of the machine.
-#[derive(Debug, Drop)]
+/// The sockets, clock, random words and threads of the machine, and its standard error, where journals go.
+#[derive(Drop)]
 pub struct HostLive<R> {
     rt: R,
     alloc: Global,
+    errors: Stderr,
     faults: u64,
 }
 
 impl<R: Copy> HostLive<R> {
     /// The devices of the machine that `rt` runs on, none of which is open yet.
-    pub fn new(rt: R, alloc: Global) -> Self
+    pub fn new(rt: R, alloc: Global, errors: Stderr) -> Self
         ensures { result.faults ≡ 0 }
     {
         HostLive {
             rt,
             alloc,
+            errors,
             faults: 0,
         }
     }
@@ -65,31 +71,47 @@ impl<R: Copy> HostLive<R> {
     }
 }
 
-type HostControl = Option<Control<UdpControl, SharedCopies>>;
+type RelayControl<R> = Option<Control<HostControl<R>, SharedCopies>>;
 
-// The control socket, where one is asked for, with what counts the copies.
-fn open_control_beside<R: Net>(
+// The control socket, where one is wanted.
+fn open_socket<R: Net>(
     rt: &R,
-    alloc: Global,
     control: &Option<Peer>,
     link: &UdpLink,
-) -> Result<HostControl, OpenFault>
-    ensures { IfOk result (λ opened. is_some opened ≡ is_some control.now) }
-{
+) -> Result<Option<UdpControl>, OpenFault> {
     let Some(peer) = control else {
         return Ok(None);
     };
-    let Ok(socket) = open_control(rt, peer, link) else {
-        return Err(OpenFault::Failed);
-    };
+    match open_control(rt, peer, link) {
+        Ok(socket) => Ok(Some(socket)),
+        Err(_) => Err(OpenFault::Failed),
+    }
+}
+
+// Where the relay is asked, if anybody asks, with what counts the copies.
+fn open_control_beside<R: Net + Clock + Copy + Drop>(
+    rt: R,
+    alloc: Global,
+    errors: Stderr,
+    asking: &AskedBy,
+    link: &UdpLink,
+) -> Result<RelayControl<R>, OpenFault>
+    ensures { IfOk result (λ opened. is_some opened ≡ is_asked asking.now) }
+{
+    if !asking.is_wanted() {
+        return Ok(None);
+    }
+    let socket = open_socket(&rt, &asking.control, link)?;
+    let journal = WriterSink::new(errors);
+    let clock = HostClock::new(rt);
     Ok(Some(Control {
-        link: socket,
+        link: JournaledControl::new(alloc, socket, clock, journal, asking.report_seconds),
         copies: SharedCopies::new(alloc),
     }))
 }
 
 // An end of the link's socket. Its copies are counted where somebody may ask for their number.
-fn open_out(link: &UdpLink, control: &mut HostControl) -> Result<HostOut, OpenFault>
+fn open_out<R>(link: &UdpLink, control: &mut RelayControl<R>) -> Result<HostOut, OpenFault>
     ensures { is_some control.new ≡ is_some control.old }
 {
     let Ok(out) = link.worker_end() else {
@@ -105,11 +127,11 @@ fn open_out(link: &UdpLink, control: &mut HostControl) -> Result<HostOut, OpenFa
 }
 
 // An end of the link's socket for each slot.
-fn open_outs(
+fn open_outs<R>(
     alloc: Global,
     link: &UdpLink,
     slots: u32,
-    control: &mut HostControl,
+    control: &mut RelayControl<R>,
 ) -> Result<Outs<HostOut>, OpenFault>
     ensures outs { IfOk result (λ outs. length outs ≡ slots) }
     ensures control { is_some control.new ≡ is_some control.old }
@@ -146,10 +168,15 @@ where
         &mut self,
         listen: &Peer,
         feed: &Peer,
-        control: &Option<Peer>,
+        asking: &AskedBy,
         slots: u32,
     ) -> Result<HostRelay<R>, OpenFault> {
-        let opened = open_relay_devices(self.rt, self.alloc, listen, feed, control, slots);
+        let machine = Machine {
+            rt: self.rt,
+            alloc: self.alloc,
+            errors: self.errors,
+        };
+        let opened = open_relay_devices(&machine, listen, feed, asking, slots);
         self.count(&opened);
         opened
     }
@@ -161,8 +188,18 @@ where
         drop(devices);
     }
 
-    fn open_gateway(&mut self, listen: &Peer, control: &Peer) -> Result<HostGateway<R>, OpenFault> {
-        let opened = open_gateway_devices(self.rt, listen, control);
+    fn open_gateway(
+        &mut self,
+        listen: &Peer,
+        control: &Peer,
+        report_seconds: u32,
+    ) -> Result<HostGateway<R>, OpenFault> {
+        let machine = Machine {
+            rt: self.rt,
+            alloc: self.alloc,
+            errors: self.errors,
+        };
+        let opened = open_gateway_devices(&machine, listen, control, report_seconds);
         self.count(&opened);
         opened
     }
@@ -175,6 +212,14 @@ where
     }
 }
 
+// What devices are opened on.
+#[derive(Clone, Copy)]
+struct Machine<R> {
+    rt: R,
+    alloc: Global,
+    errors: Stderr,
+}
+
 // What comes in ends a sleep at once, whatever this says. A system that has no such file ends sleeps on time, and an
 // idle run takes more of a processor: that is no fault.
 fn let_sleeps_end_late<F: Files>(files: &F) {
@@ -182,23 +227,23 @@ fn let_sleeps_end_late<F: Files>(files: &F) {
 }
 
 fn open_relay_devices<R>(
-    rt: R,
-    alloc: Global,
+    machine: &Machine<R>,
     listen: &Peer,
     feed: &Peer,
-    control: &Option<Peer>,
+    asking: &AskedBy,
     slots: u32,
 ) -> Result<HostRelay<R>, OpenFault>
 where
     R: Net + Threads + Wait + Clock + RandomSource + Files + Copy + Drop + 'static,
     ensures outs { IfOk result (λ set. length set.devices.outs ≡ slots) }
-    ensures control { IfOk result (λ set. is_some set.devices.control ≡ is_some control.now) }
+    ensures control { IfOk result (λ set. is_some set.devices.control ≡ is_asked asking.now) }
 {
+    let Machine { rt, alloc, errors } = *machine;
     let_sleeps_end_late(&rt);
     let Ok((link, feed)) = open_sockets(&rt, listen, feed) else {
         return Err(OpenFault::Failed);
     };
-    let mut control = open_control_beside(&rt, alloc, control, &link)?;
+    let mut control = open_control_beside(rt, alloc, errors, asking, &link)?;
     let outs = open_outs(alloc, &link, slots, &mut control)?;
     Ok(HostRelay {
         devices: RelayDevices {
@@ -215,23 +260,27 @@ where
 
 // What is handed on goes out through the link's socket, so it comes from the peer that the link listens at.
 fn open_gateway_devices<R>(
-    rt: R,
+    machine: &Machine<R>,
     listen: &Peer,
     control: &Peer,
+    report_seconds: u32,
 ) -> Result<HostGateway<R>, OpenFault>
 where
-    R: Net + Clock + RandomSource + Files + Copy,
+    R: Net + Clock + RandomSource + Files + Copy + Drop,
 {
+    let Machine { rt, alloc, errors } = *machine;
     let_sleeps_end_late(&rt);
-    let Ok((link, control)) = open_gateway_sockets(&rt, listen, control) else {
+    let Ok((link, socket)) = open_gateway_sockets(&rt, listen, control) else {
         return Err(OpenFault::Failed);
     };
     let Ok(out) = link.worker_end() else {
         return Err(OpenFault::Failed);
     };
+    let journal = WriterSink::new(errors);
+    let clock = HostClock::new(rt);
     Ok(GatewayDevices {
         link,
-        control,
+        control: JournaledControl::new(alloc, Some(socket), clock, journal, report_seconds),
         out: CountedOut::uncounted(out),
         clock: HostClock::new(rt),
         words: HostWords::new(rt),

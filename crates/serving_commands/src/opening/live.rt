@@ -1,9 +1,9 @@
 //! What opens the devices of a run.
 ghost use Rattle.std.specs.Prelude.{◌≡◌, ◌≤◌, ℕ, IfOk, IsErrOf, IsSome, List, OnErr, OnOk, Option, is_some, length};
 ghost use Rattle.amt_ports.specs.{Causes.{Rose}, Told.{Appends}};
-ghost use Rattle.serving_commands.specs.{Sets.{HasRoom, TakesFirst, less_room, more_room}, declared.opening.{asked.Opening.{Opening as Asked, TheVariants.{Relay as AskedRelay, Gateway as AskedGateway}}, devices.DeviceSet.{DeviceSet as Set, TheVariants.{Relay as OfRelay, Gateway as OfGateway}}}};
+ghost use Rattle.serving_commands.specs.{Seen.{is_asked}, Sets.{HasRoom, TakesFirst, less_room, more_room}, declared.opening.{asked.Opening.{Opening as Asked, TheVariants.{Relay as AskedRelay, Gateway as AskedGateway}}, devices.DeviceSet.{DeviceSet as Set, TheVariants.{Relay as OfRelay, Gateway as OfGateway}}}};
 
-use crate::opening::asked::Opening;
+use crate::opening::asked::{AskedBy, Opening};
 use crate::opening::sets::{GatewaySet, RelaySet};
 use amt_values::Peer;
 
@@ -40,25 +40,25 @@ pub trait Live {
     /// How often an opening has failed. A count at 2^64 - 1 stays there.
     ghost faults: { Self → ℕ };
 
-    /// Opens what a relay runs on: the link at the first peer, the feed at the second, a control socket at the
-    /// third, where one is given, and one link out for each slot.
+    /// Opens what a relay runs on: the link at the first peer, the feed at the second, a control where somebody asks,
+    /// and one link out for each slot.
     fn open_relay(
         &mut self,
         listen: &Peer,
         feed: &Peer,
-        control: &Option<Peer>,
+        asking: &AskedBy,
         slots: u32,
     ) -> Result<Self::Relay, OpenFault>
         ensures outs { IfOk result (λ devices. length (Self.Relay.seen devices).outs ≡ slots) }
         ensures control { IfOk result
-            (λ devices. is_some (Self.Relay.seen devices).control ≡ is_some control.now) }
+            (λ devices. is_some (Self.Relay.seen devices).control ≡ is_asked asking.now) }
         ensures first { IfOk result (λ devices. TakesFirst (sets self.old) (sets self.new) (OfRelay devices)) }
         ensures room { OnOk result (room self.new ≡ more_room (room self.old)) }
 
         ensures kept { OnErr result (sets self.new ≡ sets self.old) }
         ensures same_room { OnErr result (room self.new ≡ room self.old) }
 
-        ensures asked { Appends (asked self.old) (asked self.new) (AskedRelay listen.now feed.now control.now slots) }
+        ensures asked { Appends (asked self.old) (asked self.new) (AskedRelay listen.now feed.now asking.now slots) }
         ensures tells { OnOk result (IsSome (asked self.old) → IsSome (asked self.new)) }
         ensures returned { returned self.new ≡ returned self.old }
 
@@ -77,16 +77,21 @@ pub trait Live {
         ensures asked { asked self.new ≡ asked self.old }
         ensures faults { faults self.new ≡ faults self.old };
 
-    /// Opens what a gateway runs on: the link at the first peer, and its control socket at the second, with one
-    /// link out.
-    fn open_gateway(&mut self, listen: &Peer, control: &Peer) -> Result<Self::Gateway, OpenFault>
+    /// Opens what a gateway runs on: the link at the first peer, and its control socket at the second, beside which it
+    /// asks itself each so many seconds, where they aren't 0, with one link out.
+    fn open_gateway(
+        &mut self,
+        listen: &Peer,
+        control: &Peer,
+        report_seconds: u32,
+    ) -> Result<Self::Gateway, OpenFault>
         ensures first { IfOk result (λ devices. TakesFirst (sets self.old) (sets self.new) (OfGateway devices)) }
         ensures room { OnOk result (room self.new ≡ more_room (room self.old)) }
 
         ensures kept { OnErr result (sets self.new ≡ sets self.old) }
         ensures same_room { OnErr result (room self.new ≡ room self.old) }
 
-        ensures asked { Appends (asked self.old) (asked self.new) (AskedGateway listen.now control.now) }
+        ensures asked { Appends (asked self.old) (asked self.new) (AskedGateway listen.now control.now report_seconds) }
         ensures tells { OnOk result (IsSome (asked self.old) → IsSome (asked self.new)) }
         ensures returned { returned self.new ≡ returned self.old }
 

@@ -1,9 +1,9 @@
 //! Sets of devices in memory, for tests and callers.
 ghost use Rattle.std.specs.Prelude.{◌≡◌, ◌≤◌, ◌<◌, ◌⊎◌, [], ◌∷◌, Contains, IfOk, IsErr, IsErrOf, IsSome, OnErr, OnOk, Some, false, is_some, length, true};
 ghost use Rattle.amt_ports.specs.{Causes.{HasCause, Rose, next_count}, Tally.{fresh_tally, with_call, with_fault}, Told.{Appends}};
-ghost use Rattle.serving_commands.specs.{MemLive.{with_room}, Sets.{HasRoom, TakesFirst, fits_gateway, fits_relay, less_room, more_room}, declared.opening.{asked.Opening.TheVariants.{Relay as AskedRelay, Gateway as AskedGateway}, devices.DeviceSet.TheVariants.{Relay as OfRelay, Gateway as OfGateway}}};
+ghost use Rattle.serving_commands.specs.{MemLive.{with_room}, Seen.{is_asked}, Sets.{HasRoom, TakesFirst, fits_gateway, fits_relay, less_room, more_room}, declared.opening.{asked.Opening.TheVariants.{Relay as AskedRelay, Gateway as AskedGateway}, devices.DeviceSet.TheVariants.{Relay as OfRelay, Gateway as OfGateway}}};
 
-use crate::opening::asked::{AskedLog, Opening};
+use crate::opening::asked::{AskedBy, AskedLog, Opening};
 use crate::opening::devices::DeviceSet;
 use crate::opening::live::{Live, OpenFault};
 use crate::opening::returns::Returns;
@@ -17,7 +17,7 @@ use std::marker::Model;
 ///
 /// An opening fails where its number is listed, where no set is to come, and where the first one isn't what it
 /// asks for: of the other kind, or a relay's with another number of links out than there are slots, or with a
-/// control socket where none is asked for, or the other way round. That set stays the first one. Where an allocation
+/// control where none is asked for, or the other way round. That set stays the first one. Where an allocation
 /// for what was asked fails, the openings aren't told from then on.
 #[derive(Drop)]
 pub struct MemLive<R, G> {
@@ -85,7 +85,7 @@ impl<R: Drop, G: Drop> MemLive<R, G> {
     }
 }
 
-// Whether the first set to come is a relay's, with so many links out, and a control socket as asked.
+// Whether the first set to come is a relay's, with so many links out, and a control as asked.
 fn fits_relay<R: RelaySet, G>(slots: u32, asked: bool, sets: &[DeviceSet<R, G>]) -> bool
     ensures { result ≡ fits_relay R.seen slots asked sets.now }
 {
@@ -209,12 +209,12 @@ impl<R: RelaySet + Drop, G: GatewaySet + Drop> Live for MemLive<R, G> {
         &mut self,
         listen: &Peer,
         feed: &Peer,
-        control: &Option<Peer>,
+        asking: &AskedBy,
         slots: u32,
     ) -> Result<R, OpenFault>
         ensures outs { IfOk result (λ devices. length (R.seen devices).outs ≡ slots) }
         ensures control { IfOk result
-            (λ devices. is_some (R.seen devices).control ≡ is_some control.now) }
+            (λ devices. is_some (R.seen devices).control ≡ is_asked asking.now) }
         ensures first { IfOk result (λ devices. TakesFirst (Some self.old.sets)
             (Some self.new.sets) (OfRelay devices)) }
         ensures room { OnOk result
@@ -225,7 +225,7 @@ impl<R: RelaySet + Drop, G: GatewaySet + Drop> Live for MemLive<R, G> {
             (Some self.new.returned.room ≡ Some self.old.returned.room) }
 
         ensures asked { Appends self.old.asked self.new.asked
-            (AskedRelay listen.now feed.now control.now slots) }
+            (AskedRelay listen.now feed.now asking.now slots) }
         ensures tells { OnOk result (IsSome self.old.asked → IsSome self.new.asked) }
         ensures returned { Some self.new.returned.sets ≡ Some self.old.returned.sets }
 
@@ -237,11 +237,11 @@ impl<R: RelaySet + Drop, G: GatewaySet + Drop> Live for MemLive<R, G> {
 
         ensures listed { Contains self.old.calls.failing (next_count self.old.calls.made)
             → IsErrOf result OpenFault.Failed }
-        ensures unfit { fits_relay R.seen slots (is_some control.now) self.old.sets ≡ false
+        ensures unfit { fits_relay R.seen slots (is_asked asking.now) self.old.sets ≡ false
             → IsErrOf result OpenFault.Failed }
         ensures only { IsErrOf result OpenFault.Failed
             → Contains self.old.calls.failing (next_count self.old.calls.made)
-            ⊎ (fits_relay R.seen slots (is_some control.now) self.old.sets ≡ false) }
+            ⊎ (fits_relay R.seen slots (is_asked asking.now) self.old.sets ≡ false) }
         ensures err { IsErrOf result OpenFault.Failed
             → self.new.calls ≡ with_fault (with_call self.old.calls) }
         ensures ok { ¬ IsErrOf result OpenFault.Failed
@@ -250,10 +250,10 @@ impl<R: RelaySet + Drop, G: GatewaySet + Drop> Live for MemLive<R, G> {
         let opening = Opening::Relay {
             listen: *listen,
             feed: *feed,
-            control: *control,
+            asking: *asking,
             slots,
         };
-        let asked = control.is_some();
+        let asked = asking.is_wanted();
         let fits = fits_relay(slots, asked, self.sets.as_slice());
         match admit(
             &mut self.asked,
@@ -284,7 +284,12 @@ impl<R: RelaySet + Drop, G: GatewaySet + Drop> Live for MemLive<R, G> {
         self.returned.keep(DeviceSet::Relay(devices));
     }
 
-    fn open_gateway(&mut self, listen: &Peer, control: &Peer) -> Result<G, OpenFault>
+    fn open_gateway(
+        &mut self,
+        listen: &Peer,
+        control: &Peer,
+        report_seconds: u32,
+    ) -> Result<G, OpenFault>
         ensures first { IfOk result (λ devices. TakesFirst (Some self.old.sets)
             (Some self.new.sets) (OfGateway devices)) }
         ensures room { OnOk result
@@ -295,7 +300,7 @@ impl<R: RelaySet + Drop, G: GatewaySet + Drop> Live for MemLive<R, G> {
             (Some self.new.returned.room ≡ Some self.old.returned.room) }
 
         ensures asked { Appends self.old.asked self.new.asked
-            (AskedGateway listen.now control.now) }
+            (AskedGateway listen.now control.now report_seconds) }
         ensures tells { OnOk result (IsSome self.old.asked → IsSome self.new.asked) }
         ensures returned { Some self.new.returned.sets ≡ Some self.old.returned.sets }
 
@@ -319,6 +324,7 @@ impl<R: RelaySet + Drop, G: GatewaySet + Drop> Live for MemLive<R, G> {
         let opening = Opening::Gateway {
             listen: *listen,
             control: *control,
+            report_seconds,
         };
         let fits = fits_gateway(self.sets.as_slice());
         match admit(

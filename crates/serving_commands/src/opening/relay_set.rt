@@ -1,17 +1,15 @@
-//! A relay runs on devices of its own.
+//! The devices of a relay lend themselves.
 ghost use Rattle.std.specs.Prelude.{◌≡◌};
 ghost use Rattle.serving_commands.specs.{DeviceSets.{relay_seen}, Seen.{is_as_asked}};
 
 use crate::opening::devices::RelayDevices;
-use crate::opening::sets::{RelayRan, RelaySet};
+use crate::opening::sets::{OnRelay, RelaySet, Used};
 use amt_ports::{Clock, Feed, Link, OutLink, Spawner, Words};
-use relay_machine::Settings;
-use relay_serving::{Copies, ServePlan, Served, serve_relay};
+use relay_serving::Copies;
 use replication_workers::Worker;
-use std::alloc::Global;
 use std::sync::Wait;
 
-// Whether there is a control socket exactly where one is asked for.
+// Whether there is a control exactly where one is asked for.
 fn is_as_asked<T>(asked: bool, control: &Option<T>) -> bool
     ensures { result ≡ is_as_asked asked control.now }
 {
@@ -39,51 +37,11 @@ where
         self.outs.len() == slots as usize && is_as_asked(asked, &self.control)
     }
 
-    fn serve<R: Wait>(
+    fn lend<T: OnRelay, R: Wait>(
         self,
         rt: &R,
-        alloc: Global,
-        settings: Settings,
-        plan: &ServePlan,
-    ) -> RelayRan<Self> {
-        let RelayDevices {
-            mut link,
-            mut feed,
-            mut clock,
-            mut words,
-            outs,
-            mut spawner,
-            mut control,
-        } = self;
-        let Served {
-            report,
-            outs,
-            views,
-        } = serve_relay(
-            rt,
-            alloc,
-            settings,
-            plan,
-            &mut link,
-            &mut feed,
-            &mut clock,
-            &mut words,
-            outs,
-            &mut spawner,
-            &mut control,
-        );
-        RelayRan {
-            devices: RelayDevices {
-                link,
-                feed,
-                clock,
-                words,
-                outs,
-                spawner,
-                control,
-            },
-            report,
-            views,
-        }
+        to: T,
+    ) -> Used<RelayDevices<L, F, C, W, O, P, K, N>, T::Given> {
+        to.go_on(rt, self)
     }
 }

@@ -7,9 +7,10 @@ ghost use Rattle.amt_config.specs.Relay.{settings_of};
 ghost use Rattle.relay_serving.specs.Plans.{IsLawfulPlan};
 
 use crate::fault::ServingFault;
-use crate::opening::{Live, OpenFault, RelayRan, RelaySet};
+use crate::opening::{AskedBy, Live, OpenFault, Used};
 use crate::reading::read_settings;
 use crate::relay::plan::plan_by;
+use crate::relay::serving::serve_on;
 use amt_config::RelayConfig;
 use amt_ports::Files;
 use relay_serving::{ServePlan, ServeReport};
@@ -36,17 +37,17 @@ fn run_by<R: Wait, V: Live>(
         → V.faults live.new ≡ V.faults live.old }
 {
     let slots = plan.workers.max(1);
-    let devices = match live.open_relay(&config.listen, &config.feed, &config.control, slots) {
+    let asking = AskedBy {
+        control: config.control,
+        report_seconds: config.report_seconds,
+    };
+    let devices = match live.open_relay(&config.listen, &config.feed, &asking, slots) {
         Ok(devices) => devices,
         Err(fault) => return Err(fault),
     };
-    let RelayRan {
-        devices,
-        report,
-        views,
-    } = devices.serve(rt, alloc, config.settings(), plan);
+    let Used { devices, given } = serve_on(rt, alloc, config.settings(), plan, devices);
     live.return_relay(devices);
-    Ok(report)
+    Ok(given.report)
 }
 
 /// Runs a relay by the settings file of this name, for so many turns at most; a number of workers that is

@@ -9,8 +9,8 @@ use Rattle.amt_config.proofs.gateway.read_of_family.Goals as goal
 pub returns-in-Err-clause-fault : goal.returns-in-Err-clause-fault
 returns-in-Err-clause-fault c =
     past c.in_ok-listen.ensures.right (past c.in_ok-deliver.ensures.right (past c.in_ok-control.ensures.right (past c.in_ok-discovery.ensures.right
-    (past c.in_ok-source.ensures.right (past c.in_ok-relay.ensures.right (past c.in_ok-port.ensures.right (past c.in_ok-linux_relay.ensures.right (past c.in_ok-items.ensures.right
-    (in_joins (table_view c.args.table.now) c.args.family (those_in as_table (items_view c.in_ok-items.items.now)) c.in-Err.fault c.requires c.in_ok-items.ensures.found c.in-Err.ensures.fault)))))))))
+    (past c.in_ok-source.ensures.right (past c.in_ok-relay.ensures.right (past c.in_ok-port.ensures.right (past c.in_ok-linux_relay.ensures.right (past c.in_ok-report_seconds.ensures.right (past c.in_ok-items.ensures.right
+    (in_joins (table_view c.args.table.now) c.args.family (those_in as_table (items_view c.in_ok-items.items.now)) c.in-Err.fault c.requires c.in_ok-items.ensures.found c.in-Err.ensures.fault))))))))))
 
 pub returns-clause-found : goal.returns-clause-found
 returns-clause-found c =
@@ -27,5 +27,6 @@ returns-clause-found c =
       relay = c.in_ok-relay.ensures.found;
       port = c.in_ok-port.ensures.found;
       linux_relay = c.in_ok-linux_relay.ensures.found;
+      report = c.in_ok-report_seconds.ensures.found;
       joins = record { tables = tables; there = c.in_ok-items.ensures.found; are = subst (λ (f : Family). AreJoins (Some f) [] tables c.in-Ok.joins) back c.in-Ok.ensures.found };
     }

@@ -79,6 +79,14 @@ returns-in_err-flag_at-clause-fault c =
     past c.in_ok-relay.ensures.right (past c.in_ok-listen.ensures.right (past c.in_ok-feed.ensures.right (past c.in_ok-control_anywhere.ensures.right (past c.in_ok-control.ensures.right (past c.in_ok-value_or.ensures.right (past c.in_ok-value_or-2.ensures.right (past c.in_ok-number_of.ensures.right (past c.in_ok-number_of-2.ensures.right (past c.in_ok-number_of-3.ensures.right (past c.in_ok-number_of-4.ensures.right (past c.in_ok-number_of-5.ensures.right (past c.in_ok-number_of-6.ensures.right (past c.in_ok-number_of-7.ensures.right (past c.in_ok-number_at.ensures.right (past c.in_ok-number_of-8.ensures.right (past c.in_ok-number_at-2.ensures.right (inl c.in_err-flag_at.ensures.fault))))))))))))))))) in
     rw (handed.1, handed.2) first
 
+pub returns-in_err-number_at-3-clause-fault : goal.returns-in_err-number_at-3-clause-fault
+returns-in_err-number_at-3-clause-fault c =
+    let table = table_view c.args.table.now in
+    let handed = err_from_is_err_and c.from_residual-in_err-number_at-3.result c.from_residual-in_err-number_at-3.ensures.1 in
+    let first : MayFailFirst (relay_keys (table_anywhere table)) table ⊥ c.in_err-number_at-3.field-0.0 =
+    past c.in_ok-relay.ensures.right (past c.in_ok-listen.ensures.right (past c.in_ok-feed.ensures.right (past c.in_ok-control_anywhere.ensures.right (past c.in_ok-control.ensures.right (past c.in_ok-value_or.ensures.right (past c.in_ok-value_or-2.ensures.right (past c.in_ok-number_of.ensures.right (past c.in_ok-number_of-2.ensures.right (past c.in_ok-number_of-3.ensures.right (past c.in_ok-number_of-4.ensures.right (past c.in_ok-number_of-5.ensures.right (past c.in_ok-number_of-6.ensures.right (past c.in_ok-number_of-7.ensures.right (past c.in_ok-number_at.ensures.right (past c.in_ok-number_of-8.ensures.right (past c.in_ok-number_at-2.ensures.right (past c.in_ok-flag_at.ensures.right (inl c.in_err-number_at-3.ensures.fault)))))))))))))))))) in
+    rw (handed.1, handed.2) first
+
 pub returns-clause-found : goal.returns-clause-found
 returns-clause-found c =
     let table = table_view c.args.table.now in
@@ -107,4 +115,5 @@ returns-clause-found c =
       rotate = c.in_ok-number_at.ensures.found;
       workers = c.in_ok-number_at-2.ensures.found;
       linux_gateways = c.in_ok-flag_at.ensures.found;
+      report = c.in_ok-number_at-3.ensures.found;
     }

@@ -13,10 +13,10 @@ loop-word-preserved c =
     let word : get_or (map text_of c.args.words.now) (length c.loop-word.yielded) c.in-Some.word.now.now ≡ c.in-Some.word.now.now =
     get_or-map text_of c.args.words.now (length c.loop-word.yielded) c.in-Some.word.now c.in-Some.word.now.now turn.0 ∙ ap text_of (sym (turn.2 c.in-Some.word.now)) in
     record {
-      lines = line_more (map text_of c.args.words.now) c.args.tally.now (length c.loop-word.yielded) _ c.loop-word.text c.append_number.new.text _ c.in-Some.word.now.now c.in-Some.number.now
+      lines = line_more (map text_of c.args.words.now) c.args.tally.now (length c.loop-word.yielded) _ c.loop-word.text c.append_word.new.text _ c.in-Some.word.now.now c.in-Some.number.now
           (omega (arith, turn.0, length-map c.args.words.now text_of)) turn.1 word (sym (turn.3 c.in-Some.number.now)) (length_push c.loop-word.yielded (c.in-Some.word, c.in-Some.number))
-          c.in_ok-append_number.ensures.text c.loop-word.invariant.lines;
-      begun = begins_on _ _ _ _ c.loop-word.invariant.begun c.in_ok-append_number.ensures.text;
+          c.in_ok-append_word.ensures.text c.loop-word.invariant.lines;
+      begun = begins_on _ _ _ _ c.loop-word.invariant.begun c.in_ok-append_word.ensures.text;
     }
 
 pub returns-clause-text : goal.returns-clause-text

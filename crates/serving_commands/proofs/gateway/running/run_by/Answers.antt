@@ -14,8 +14,8 @@ pub returns-clause-ran : goal.returns-clause-ran
 returns-clause-ran g c =
     let opening = c.in-Ok.ensures in
     let back = c.return_gateway.ensures in
-    let served = c.serve-devices in
+    let served = c.serve_on-devices in
     ∥∥₁_map served.ensures
-    (ran _ _ c.args.config.now c.args.turns c.args.live.now c.open_gateway.new.self c.return_gateway.new.self c.in-Ok.devices served.result.devices served.result.report
+    (ran _ _ c.args.config.now c.args.turns c.args.live.now c.open_gateway.new.self c.return_gateway.new.self c.in-Ok.devices served.result.devices served.result.given
     c.open_gateway.ensures.asked opening.first opening.tells c.open_gateway.ensures.returned opening.room
     back.returned back.tells back.room back.kept back.asked)

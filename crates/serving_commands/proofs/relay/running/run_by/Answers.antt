@@ -16,9 +16,9 @@ pub returns-clause-ran : goal.returns-clause-ran
 returns-clause-ran g c =
     let opening = c.in-Ok.ensures in
     let back = c.return_relay.ensures in
-    let served = c.serve-devices in
+    let served = c.serve_on-devices in
     ∥∥₁_map served.ensures
     (ran _ _ c.args.config.now c.args.plan.now c.args.live.now c.open_relay.new.self c.return_relay.new.self c.in-Ok.devices
-    served.result.devices (views_of served.result.views) served.result.report c.settings.result c.max-slots.result c.settings.ensures c.max-slots.ensures
+    served.result.devices (views_of served.result.given.views) served.result.given.report c.settings.result c.max-slots.result c.settings.ensures c.max-slots.ensures
     opening.outs opening.control c.open_relay.ensures.asked opening.first opening.tells c.open_relay.ensures.returned opening.room
     back.returned back.tells back.room back.kept back.asked)

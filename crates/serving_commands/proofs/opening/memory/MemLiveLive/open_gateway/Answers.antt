@@ -27,7 +27,7 @@ returns-in-Err-clause-ok g c = λ other.
     subst (λ live. c.admit.new.calls ≡ with_call live.calls) c.self.view_is counted
 
 pub returns-in-Ok-clause-asked : goal.returns-in-Ok-clause-asked
-returns-in-Ok-clause-asked g c = subst (λ live. Appends live.asked c.admit.new.asked (AskedGateway c.args.listen.now c.args.control.now)) c.self.view_is c.in-Ok.ensures.asked
+returns-in-Ok-clause-asked g c = subst (λ live. Appends live.asked c.admit.new.asked (AskedGateway c.args.listen.now c.args.control.now c.args.report_seconds)) c.self.view_is c.in-Ok.ensures.asked
 
 pub returns-in-Ok-clause-tells : goal.returns-in-Ok-clause-tells
 returns-in-Ok-clause-tells g c = subst (λ live. IsSome live.asked → IsSome c.admit.new.asked) c.self.view_is c.in-Ok.ensures.tells
@@ -43,7 +43,7 @@ pub returns-in-Ok-clause-ok : goal.returns-in-Ok-clause-ok
 returns-in-Ok-clause-ok g c = λ other. subst (λ live. c.admit.new.calls ≡ with_call live.calls) c.self.view_is (c.in-Ok.ensures.ok (λ is. cc is))
 
 pub returns-in-Err-clause-asked : goal.returns-in-Err-clause-asked
-returns-in-Err-clause-asked g c = subst (λ live. Appends live.asked c.admit.new.asked (AskedGateway c.args.listen.now c.args.control.now)) c.self.view_is c.in-Err.ensures.asked
+returns-in-Err-clause-asked g c = subst (λ live. Appends live.asked c.admit.new.asked (AskedGateway c.args.listen.now c.args.control.now c.args.report_seconds)) c.self.view_is c.in-Err.ensures.asked
 
 pub returns-in-Err-clause-unfit : goal.returns-in-Err-clause-unfit
 returns-in-Err-clause-unfit g c = λ unfit.

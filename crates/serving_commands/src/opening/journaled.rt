@@ -1,0 +1,175 @@
+//! A control by which an end asks itself too, and keeps a journal of the answers.
+ghost use Rattle.std.specs.Prelude.{◌≡◌, ◌≢◌, ◌≤◌, None, length, IfOk};
+ghost use Rattle.amt_ports.specs.{Arrivals.{IsShortGot}, Causes.{HasCause}};
+ghost use Rattle.serving_commands.specs.Journaled.{faults_of};
+
+use crate::opening::journal::journal_line;
+use amt_ports::{Clock, Failed, Got, Link, Sink, write_all_own};
+use amt_values::{Bytes, Ip, Moment, Peer};
+use std::alloc::Global;
+
+// Who asks for the journal: ::ffff:0.0.0.0. No datagram is said to come from there, since a source that is an
+// IPv4-mapped address is told as the IPv4 one.
+const JOURNAL: Peer = Peer {
+    ip: Ip::V6(0xffff_0000_0000),
+    port: 0,
+};
+
+// How often in a row a socket isn't looked at, at most: the clock may give the same moment for ever.
+const MOST_SKIPPED: u32 = 64;
+
+const QUESTION: [u8; 6] = *b"counts";
+
+/// Lines of a control socket, if there is one, and each so many seconds a question of the end's own, `counts`: from
+/// its answer a line of the counts that have changed goes to the journal. No clause says what the journal gets. The
+/// end waits until the journal has taken a line; what it refuses is told in the next one.
+///
+/// ```text
+///   socket  --- lines --->  +---------+ --- lines, and `counts` when it is due --->  the end
+///           <-- answers --  | control | <-- answers ------------------------------
+///                           +---------+ --- the answer to its own question --> journal
+/// ```
+///
+/// A socket in which nothing was found isn't looked at again in the same millisecond, for 64 times at most, unless
+/// there is time to wait: so one that nobody asks costs a busy end hardly a call of the system.
+#[derive(Drop)]
+pub struct JournaledControl<K, C, S> {
+    alloc: Global,
+    socket: Option<K>,
+    clock: C,
+    journal: S,
+    seconds: u32,
+    due_ms: u64,
+    now: Moment,
+    asked_at: Moment,
+    empty_at: Option<Moment>,
+    skipped: u32,
+    last: Bytes,
+}
+
+impl<K: Link, C: Clock, S: Sink> JournaledControl<K, C, S> {
+    ghost use Rattle.std.specs.Prelude.{◌≡◌, ◌≤◌, length};
+    ghost use Rattle.serving_commands.specs.Journaled.{faults_of};
+
+    /// With 0 seconds it asks nothing itself.
+    pub fn new(alloc: Global, socket: Option<K>, clock: C, journal: S, report_seconds: u32) -> Self
+        ensures { result.socket ≡ socket }
+    {
+        JournaledControl {
+            alloc,
+            socket,
+            clock,
+            journal,
+            seconds: report_seconds,
+            due_ms: u64::from(report_seconds) * 1000,
+            now: Moment::new(0).unwrap(),
+            asked_at: Moment::new(0).unwrap(),
+            empty_at: None,
+            skipped: 0,
+            last: Bytes::new(alloc),
+        }
+    }
+
+    /// Where its lines went.
+    pub fn journal(&self) -> &S {
+        &self.journal
+    }
+
+    // The latest moment that the clock gave.
+    fn pass_time(&mut self)
+        ensures { self.new.socket ≡ self.old.socket }
+    {
+        self.now = self.now.later(&self.clock.now());
+    }
+
+    fn is_due(&self) -> bool {
+        self.seconds > 0 && self.due_ms <= self.now.ms()
+    }
+
+    // Whether the socket is left alone: it was found empty in this millisecond.
+    fn skips(&mut self) -> bool
+        ensures { self.new.socket ≡ self.old.socket }
+    {
+        if self.empty_at != Some(self.now) || self.skipped >= MOST_SKIPPED {
+            self.skipped = 0;
+            return false;
+        }
+        self.skipped += 1;
+        true
+    }
+
+    // Puts the end's own question into the buffer.
+    fn ask(&mut self, buf: &mut [u8]) -> Got
+        requires { 65536 ≤ length buf.old }
+        ensures buffer { length buf.new ≡ length buf.old }
+        ensures short { IsShortGot result }
+        ensures open { result ≢ Got.Closed }
+        ensures socket { self.new.socket ≡ self.old.socket }
+    {
+        self.due_ms = self.now.ms() + u64::from(self.seconds) * 1000;
+        self.asked_at = self.now;
+        buf[..QUESTION.len()].copy_from_slice(&QUESTION);
+        Got::Datagram(JOURNAL, QUESTION.len())
+    }
+
+    // Writes down what has changed since the last answer, which is one datagram: counts are never as long as two.
+    fn write_down(&mut self, answer: &[u8])
+        ensures socket { self.new.socket ≡ self.old.socket }
+    {
+        let seconds = self.asked_at.ms() / 1000;
+        let Ok(line) = journal_line(self.alloc, seconds, self.last.as_slice(), answer) else {
+            return;
+        };
+        if let Some(line) = line {
+            if write_all_own(&mut self.journal, line.as_slice()).is_err() {
+                return;
+            }
+        }
+        if let Ok(copy) = Bytes::copied(self.alloc, answer) {
+            self.last = copy;
+        }
+    }
+}
+
+impl<K: Link, C: Clock, S: Sink> Link for JournaledControl<K, C, S> {
+    ghost coming = { λ _. None };
+
+    ghost tried = { λ _. None };
+
+    ghost receive_faults = { λ control. faults_of K.receive_faults control.socket };
+
+    ghost send_faults = { λ control. faults_of K.send_faults control.socket };
+
+    ghost longest_wait = { λ _. 0 };
+
+    fn recv(&mut self, buf: &mut [u8], wait_ms: u32) -> Result<Got, Failed> {
+        self.pass_time();
+        if self.is_due() {
+            return Ok(self.ask(buf));
+        }
+        if wait_ms == 0 && self.skips() {
+            return Ok(Got::Nothing);
+        }
+        let Some(socket) = &mut self.socket else {
+            return Ok(Got::Nothing);
+        };
+        let got = socket.recv(buf, wait_ms)?;
+        self.empty_at = match got {
+            Got::Nothing => Some(self.now),
+            _ => None,
+        };
+        Ok(got)
+    }
+
+    fn send(&mut self, to: &Peer, bytes: &[u8]) -> Result<(), Failed> {
+        if *to == JOURNAL {
+            self.write_down(bytes);
+            return Ok(());
+        }
+        match &mut self.socket {
+            Some(socket) => socket.send(to, bytes),
+            // Nobody else has asked.
+            None => Ok(()),
+        }
+    }
+}
