@@ -273,7 +273,7 @@ def a_large_table_is_counted(command):
         asker = Asker(CONTROL)
         for endpoints in (0, ENDPOINTS):
             for number in range(endpoints):
-                member = Endpoint(PEER, (ADDRESS, AMT_PORT))
+                member = Endpoint(PEER, (ADDRESS, AMT_PORT), port=20_000 + number)
                 member.ask()
                 member.update([(IS_EX, f"239.2.0.{group}", []) for group in range(1, GROUPS_OF_ONE + 1)])
                 member.settle()
