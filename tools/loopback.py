@@ -144,8 +144,8 @@ class Endpoint:
 
 
 def write_settings(path, settings):
-    """A settings file: text, numbers, and whole lines after them."""
-    lines = [f'{key} = "{value}"' if isinstance(value, str) else f"{key} = {value}" for key, value in settings.items()]
+    """A settings file of texts, numbers and booleans."""
+    lines = [f'{key} = "{value}"' if isinstance(value, str) else f"{key} = {str(value).lower()}" for key, value in settings.items()]
     pathlib.Path(path).write_text("\n".join(lines) + "\n", encoding="ascii")
     return str(path)
 

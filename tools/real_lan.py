@@ -282,11 +282,11 @@ def nothing_more(from_socket, wait_s=0.4):
     expect(not found, f"something came: {found}")
 
 
-def sending(lan, where, group, ttl=8):
+def sending(where, group, ttl=8, device=DEVICE):
     """A sender's socket, as any program has one."""
     with inside(where):
         made = socket.socket(socket.AF_INET6 if ":" in group else socket.AF_INET, socket.SOCK_DGRAM)
-        index = socket.if_nametoindex(DEVICE)
+        index = socket.if_nametoindex(device)
     if ":" in group:
         made.setsockopt(socket.IPPROTO_IPV6, socket.IPV6_MULTICAST_HOPS, ttl)
         made.setsockopt(socket.IPPROTO_IPV6, socket.IPV6_MULTICAST_IF, index)

@@ -181,7 +181,7 @@ def a_feed_gets_the_sources_that_it_wants(lan):
 def packets_of_a_real_sender_have_right_checksums(lan):
     with feed_of(lan) as feed, feeding(lan, "--group", GROUP, "--group", GROUP6) as tool:
         for group in (GROUP, GROUP6):
-            with sending(lan, lan.far, group) as sender:
+            with sending(lan.far, group) as sender:
                 for size in (1, 100, 1001):
                     sender.sendto(bytes(range(256)) * 4 if size > 1000 else bytes(size), (group, PORT))
             for it in receive(feed, 3):
@@ -192,7 +192,7 @@ def packets_of_a_real_sender_have_right_checksums(lan):
 @test
 def fragments_are_passed_as_they_come(lan):
     text = os.urandom(4000)
-    with feed_of(lan) as feed, feeding(lan, "--group", GROUP) as tool, sending(lan, lan.far, GROUP) as sender:
+    with feed_of(lan) as feed, feeding(lan, "--group", GROUP) as tool, sending(lan.far, GROUP) as sender:
         sender.sendto(text, (GROUP, PORT))
         got = receive(feed, 3)
         places = [struct.unpack_from("!H", it, 6)[0] & 0x3FFF for it in got]
@@ -226,7 +226,7 @@ def what_the_host_itself_sends_is_passed_where_that_is_wanted(lan):
     for words, wanted in (((), 0), (("--also-own",), 2)):
         with feed_of(lan) as feed, wire_of(lan) as wire, feeding(lan, "--group", GROUP, "--group", GROUP6, *words) as tool:
             for group in (GROUP, GROUP6):
-                with sending(lan, lan.near, group) as sender:
+                with sending(lan.near, group) as sender:
                     sender.sendto(b"own", (group, PORT))
             wire.send(udp(SOURCE, GROUP, b"end"))
             got = receive(feed, wanted + 1)
