@@ -187,7 +187,7 @@ def both_ends_write_what_has_changed(command):
             expect(Asker(port).ask("stop") == "", "stop")
             status, _out, err = end.wait(SOON_S)
             lines = err.splitlines()
-            whole = all(re.fullmatch(r"amt: [1-9]\d* s:( (= )?([a-z_]+ )+\d+)+", line) for line in lines)
+            whole = all(re.fullmatch(r"amt: [1-9]\d* s:( ([a-z_]+ )+\d+)+", line) for line in lines)
             expect(status == 0 and whole and 1 <= len(lines) <= most and told in err, f"status {status}, {err!r}")
 
 

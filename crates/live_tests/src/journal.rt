@@ -47,7 +47,7 @@ const TURNS: [Turn; 7] = [
     Turn {
         at: 3500,
         answer: Some(
-            "turns 10\ndatagrams 3\nrows 0\n= moved 10\n= advertised 2\n= badmac 1\n. 1\n",
+            "turns 10\ndatagrams 4\nupdated 1\nrows 0\n= moved 10\n= advertised 2\n= badmac 1\n= updated 1\n. 1\n",
         ),
     },
     Turn {
@@ -57,13 +57,13 @@ const TURNS: [Turn; 7] = [
     Turn {
         at: 86_400_000,
         answer: Some(
-            "turns 11\ndatagrams 3\nrows 1\n= moved 11\n= advertised 2\n= badmac 1\n. 1\n",
+            "turns 11\ndatagrams 4\nupdated 1\nrows 1\n= moved 11\n= advertised 2\n= badmac 1\n= updated 1\n. 1\n",
         ),
     },
 ];
 
 const JOURNAL: &str =
-    "amt: 1 s: datagrams 2 rows 0 = advertised 2\namt: 3 s: datagrams 3 = badmac 1\namt: 86400 s: rows 1\n";
+    "amt: 1 s: datagrams 2 rows 0 advertised 2\namt: 3 s: datagrams 4 updated 1 badmac 1\namt: 86400 s: rows 1\n";
 
 fn clock(alloc: Global, moments: &[u64]) -> Result<MemClock, AllocError> {
     let mut list = Vec::new(alloc);

@@ -2,6 +2,7 @@ pub mod DeviceSets
 pub mod GatewayOpenings
 pub mod GatewayRunning
 pub mod GatewayTexts
+pub mod Journal
 pub mod Journaled
 pub mod Kinds
 pub mod Lives

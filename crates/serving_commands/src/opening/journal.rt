@@ -1,33 +1,18 @@
 //! A line of the counts that have changed. It knows no device.
-//!
-//! No clause says what the line is: that it is as the documents say is tested, not proved.
-ghost use Rattle.std.specs.Prelude.{◌≤◌, ◌+◌, length, IfSome};
+ghost use Rattle.std.specs.{Prelude.{◌≡◌, ◌++◌, IfOk, OnOk}, List.{list_any}, Str.{bytes_eq, Lines.{lines}}};
+ghost use Rattle.serving_commands.specs.Journal.{changes, is_in_the_report, journal_line, tells_that_it_runs, told_of, unmarked};
 
-use amt_values::Bytes;
+use amt_values::{Bytes, append_numeral};
+use script_lines::next_line;
 use std::alloc::{AllocError, Global};
 
-// The first line of a text, without its end, and what follows it; none where the text is empty.
-fn next_line(text: &[u8]) -> Option<(&[u8], &[u8])>
-    ensures { IfSome result (λ parts. length parts.1.now + 1 ≤ length text.now) }
+fn is_line_of(text: &[u8], line: &[u8]) -> bool
+    ensures { result ≡ list_any (bytes_eq line.now) (lines text.now) }
 {
-    if text.is_empty() {
-        return None;
-    }
-    for at in 0..text.len() {
-        if text[at] == b'\n' {
-            return Some((&text[..at], &text[at + 1..]));
-        }
-    }
-    Some((text, &[]))
-}
-
-fn has_line(text: &[u8], line: &[u8]) -> bool {
     let mut rest = text;
-    for _ in 0..text.len() {
-        let Some((first, later)) = next_line(rest) else {
-            return false;
-        };
-        if first == line {
+    while !rest.is_empty() {
+        let (first, later) = next_line(rest);
+        if line == first {
             return true;
         }
         rest = later;
@@ -35,56 +20,82 @@ fn has_line(text: &[u8], line: &[u8]) -> bool {
     false
 }
 
-fn begins_with(line: &[u8], word: &[u8]) -> bool {
-    line.len() >= word.len() && &line[..word.len()] == word
+// Whether the line counts turns or questions, or ends the answer.
+fn tells_that_it_runs(line: &[u8]) -> bool
+    ensures { result ≡ tells_that_it_runs line.now }
+{
+    line.starts_with(b"turns ")
+        || line.starts_with(b"published ")
+        || line.starts_with(b"controls ")
+        || line.starts_with(b"= moved ")
+        || line.starts_with(b"= drawn ")
+        || line.starts_with(b"= quiet ")
+        || line.starts_with(b". ")
 }
 
-// What counts turns and questions alone, and the end of an answer.
-const SILENT: [&str; 7] = [
-    "turns ",
-    "published ",
-    "controls ",
-    "= moved ",
-    "= drawn ",
-    "= quiet ",
-    ". ",
-];
+// Whether the line counts an outcome which the report counts too.
+fn is_in_the_report(line: &[u8]) -> bool
+    ensures { result ≡ is_in_the_report line.now }
+{
+    line.starts_with(b"= updated ")
+        || line.starts_with(b"= torndown ")
+        || line.starts_with(b"= delivered ")
+}
 
-// Whether the line says more than that the end goes on.
-fn tells_something(line: &[u8]) -> bool {
-    for word in SILENT {
-        if begins_with(line, word.as_bytes()) {
-            return false;
-        }
+// A count without the mark of an outcome.
+fn unmarked(line: &[u8]) -> &[u8]
+    ensures { result.now ≡ unmarked line.now }
+{
+    match line {
+        [b'=', b' ', count @ ..] => count,
+        _ => line,
     }
-    true
 }
 
-/// The lines of an answer to `counts` that weren't in the one before, after so many seconds: `amt: SECONDS s:`, and a
-/// space before each. None where only what counts turns and questions has changed.
+// Puts what the journal has of a line at the end.
+fn append_count(text: &mut Bytes, before: &[u8], line: &[u8]) -> Result<(), AllocError>
+    ensures { OnOk result (text.new ≡ text.old ++ told_of (lines before.now) line.now) }
+{
+    if tells_that_it_runs(line) || is_in_the_report(line) || is_line_of(before, line) {
+        return Ok(());
+    }
+    text.append(b" ")?;
+    text.append(unmarked(line))
+}
+
+// The counts that have changed, a space before each.
+fn changes(alloc: Global, before: &[u8], answer: &[u8]) -> Result<Bytes, AllocError>
+    ensures { IfOk result (λ text. text ≡ changes before.now answer.now) }
+{
+    let mut text = Bytes::new(alloc);
+    let mut rest = answer;
+    while !rest.is_empty() {
+        let (line, later) = next_line(rest);
+        append_count(&mut text, before, line)?;
+        rest = later;
+    }
+    Ok(text)
+}
+
+/// The counts of an answer to `counts` that weren't in the one before, after so many seconds: `amt: SECONDS s:`, a
+/// space before each, and a line feed. Nothing where only what counts turns and questions has changed.
 pub fn journal_line(
     alloc: Global,
     seconds: u64,
     before: &[u8],
     answer: &[u8],
-) -> Result<Option<Bytes>, AllocError> {
-    let mut text = Bytes::new(alloc);
-    text.write_fmt(format_args!("amt: {seconds} s:"))?;
-    let head = text.len();
-    let mut rest = answer;
-    for _ in 0..answer.len() {
-        let Some((line, later)) = next_line(rest) else {
-            break;
-        };
-        if tells_something(line) && !has_line(before, line) {
-            text.append(b" ")?;
-            text.append(line)?;
-        }
-        rest = later;
+) -> Result<Bytes, AllocError>
+    ensures { IfOk result (λ line. line ≡ journal_line seconds before.now answer.now) }
+{
+    let mut line = Bytes::new(alloc);
+    let changes = changes(alloc, before, answer)?;
+    if changes.as_slice().is_empty() {
+        return Ok(line);
     }
-    if text.len() == head {
-        return Ok(None);
-    }
-    text.append(b"\n")?;
-    Ok(Some(text))
+    line.append(b"amt: ")?;
+    append_numeral(&mut line, seconds)?;
+    line.append(b" s:")?;
+    line.append(changes.as_slice())?;
+    line.append(b"\n")?;
+    Ok(line)
 }

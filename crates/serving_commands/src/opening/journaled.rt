@@ -1,12 +1,13 @@
 //! A control by which an end asks itself too, and keeps a journal of the answers.
-ghost use Rattle.std.specs.Prelude.{◌≡◌, ◌≢◌, ◌≤◌, None, length, IfOk};
+ghost use Rattle.std.specs.Prelude.{◌≡◌, ◌≢◌, ◌≤◌, ◌/◌, None, length, IfOk};
 ghost use Rattle.amt_ports.specs.{Arrivals.{IsShortGot}, Causes.{HasCause}};
-ghost use Rattle.serving_commands.specs.Journaled.{faults_of};
+ghost use Rattle.serving_commands.specs.{Journal.{IsWrittenDown, journal_line}, Journaled.{faults_of, own_peer}};
 
 use crate::opening::journal::journal_line;
 use amt_ports::{Clock, Failed, Got, Link, Sink, write_all_own};
 use amt_values::{Bytes, Ip, Moment, Peer};
 use std::alloc::Global;
+use std::marker::Model;
 
 // Who asks for the journal: ::ffff:0.0.0.0. No datagram is said to come from there, since a source that is an
 // IPv4-mapped address is told as the IPv4 one.
@@ -20,9 +21,9 @@ const MOST_SKIPPED: u32 = 64;
 
 const QUESTION: [u8; 6] = *b"counts";
 
-/// Lines of a control socket, if there is one, and each so many seconds a question of the end's own, `counts`: from
-/// its answer a line of the counts that have changed goes to the journal. No clause says what the journal gets. The
-/// end waits until the journal has taken a line; what it refuses is told in the next one.
+/// Lines of a control socket, if there is one, and each so many seconds a question of the end's own, `counts`: of its
+/// answer a line of the counts that have changed goes to the journal. When it asks is tested, not proved. The end waits
+/// until the journal has taken a line; what it refuses is told in the next one.
 ///
 /// ```text
 ///   socket  --- lines --->  +---------+ --- lines, and `counts` when it is due --->  the end
@@ -47,13 +48,23 @@ pub struct JournaledControl<K, C, S> {
     last: Bytes,
 }
 
+impl<K, C, S> Model for JournaledControl<K, C, S> {
+    ghost use Rattle.serving_commands.specs.Journaled.{Journaled};
+
+    ghost Value = { Journaled K S };
+
+    ghost view = { λ control. record { socket = control.socket; journal = control.journal; asked_at = control.asked_at; last = control.last } };
+}
+
 impl<K: Link, C: Clock, S: Sink> JournaledControl<K, C, S> {
-    ghost use Rattle.std.specs.Prelude.{◌≡◌, ◌≤◌, length};
-    ghost use Rattle.serving_commands.specs.Journaled.{faults_of};
+    ghost use Rattle.std.specs.Prelude.{◌≡◌, ◌≤◌, ◌/◌, [], length};
+    ghost use Rattle.serving_commands.specs.{Journal.{IsWrittenDown, journal_line}, Journaled.{faults_of}};
 
     /// With 0 seconds it asks nothing itself.
     pub fn new(alloc: Global, socket: Option<K>, clock: C, journal: S, report_seconds: u32) -> Self
-        ensures { result.socket ≡ socket }
+        ensures socket { result.socket ≡ socket }
+        ensures journal { result.journal ≡ journal }
+        ensures none { result.last ≡ [] }
     {
         JournaledControl {
             alloc,
@@ -71,7 +82,9 @@ impl<K: Link, C: Clock, S: Sink> JournaledControl<K, C, S> {
     }
 
     /// Where its lines went.
-    pub fn journal(&self) -> &S {
+    pub fn journal(&self) -> &S
+        ensures { result.now ≡ self.entry.now.journal }
+    {
         &self.journal
     }
 
@@ -115,17 +128,19 @@ impl<K: Link, C: Clock, S: Sink> JournaledControl<K, C, S> {
     // Writes down what has changed since the last answer, which is one datagram: counts are never as long as two.
     fn write_down(&mut self, answer: &[u8])
         ensures socket { self.new.socket ≡ self.old.socket }
+        ensures journal { IsWrittenDown
+            (journal_line (self.old.asked_at / 1000) self.old.last answer.now)
+            (S.written self.old.journal) (S.written self.new.journal)
+            answer.now self.old.last self.new.last }
     {
         let seconds = self.asked_at.ms() / 1000;
         let Ok(line) = journal_line(self.alloc, seconds, self.last.as_slice(), answer) else {
             return;
         };
-        if let Some(line) = line {
-            if write_all_own(&mut self.journal, line.as_slice()).is_err() {
-                return;
-            }
-        }
-        if let Ok(copy) = Bytes::copied(self.alloc, answer) {
+        let Ok(copy) = Bytes::copied(self.alloc, answer) else {
+            return;
+        };
+        if write_all_own(&mut self.journal, line.as_slice()).is_ok() {
             self.last = copy;
         }
     }
@@ -161,7 +176,14 @@ impl<K: Link, C: Clock, S: Sink> Link for JournaledControl<K, C, S> {
         Ok(got)
     }
 
-    fn send(&mut self, to: &Peer, bytes: &[u8]) -> Result<(), Failed> {
+    fn send(&mut self, to: &Peer, bytes: &[u8]) -> Result<(), Failed>
+        ensures cause { HasCause (faults_of K.send_faults self.old.socket) (faults_of K.send_faults self.new.socket) result }
+        ensures apart { faults_of K.receive_faults self.new.socket ≡ faults_of K.receive_faults self.old.socket }
+        ensures journal { to.now ≡ own_peer → IsWrittenDown
+            (journal_line (self.old.asked_at / 1000) self.old.last bytes.now)
+            (S.written self.old.journal) (S.written self.new.journal)
+            bytes.now self.old.last self.new.last }
+    {
         if *to == JOURNAL {
             self.write_down(bytes);
             return Ok(());
