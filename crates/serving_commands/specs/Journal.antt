@@ -1,6 +1,5 @@
 -- A line of the journal: the counts of an answer that weren't in the one before.
-use Rattle.std.specs.{Prelude.{◌≡◌, ◌⊎◌, ℕ, Bool, nat_eq, ◌||◌, List, [], ◌∷◌, ◌++◌, drop, take, flat_map, codes, decimal, Option, if◌then◌else◌}, List.{list_any, starts_with}, Str.{bytes_eq, Lines.{lines}}}
-use Rattle.std.specs.Io.KnownBytes.{Appends}
+use Rattle.std.specs.{Prelude.{ℕ, Bool, nat_eq, ◌||◌, List, [], ◌∷◌, ◌++◌, drop, flat_map, codes, decimal, if◌then◌else◌}, List.{list_any, starts_with}, Str.{bytes_eq, Lines.{lines}}}
 use Rattle.script_lines.specs.Lines.{is_filled}
 
 -- the line counts turns or questions, or it ends the answer
@@ -36,8 +35,3 @@ journal_line seconds before answer =
     if is_filled (changes before answer)
     then codes "amt: " ++ (decimal seconds ++ (codes " s:" ++ (changes before answer ++ (10 ∷ []))))
     else []
-
--- the line was written whole, and the answer is the last one now; or a prefix of it, and the last one is as before
-abbrev pub IsWrittenDown : (line : List ℕ) (written written' : Option (List ℕ)) (answer last last' : List ℕ) → Type 0
-IsWrittenDown line written written' answer last last' =
-    (Appends written written' line × (last' ≡ answer)) ⊎ ((n : ℕ) × Appends written written' (take n line) × (last' ≡ last))

@@ -1,7 +1,7 @@
 //! A control by which an end asks itself too, and keeps a journal of the answers.
-ghost use Rattle.std.specs.Prelude.{◌≡◌, ◌≢◌, ◌≤◌, ◌/◌, None, length, IfOk};
+ghost use Rattle.std.specs.Prelude.{◌≡◌, ◌≢◌, ◌≤◌, None, length, IfOk};
 ghost use Rattle.amt_ports.specs.{Arrivals.{IsShortGot}, Causes.{HasCause}};
-ghost use Rattle.serving_commands.specs.{Journal.{IsWrittenDown, journal_line}, Journaled.{faults_of, own_peer}};
+ghost use Rattle.serving_commands.specs.Journaled.{IsWrittenDown, WritesNothing, faults_of, own_peer};
 
 use crate::opening::journal::journal_line;
 use amt_ports::{Clock, Failed, Got, Link, Sink, write_all_own};
@@ -57,8 +57,7 @@ impl<K, C, S> Model for JournaledControl<K, C, S> {
 }
 
 impl<K: Link, C: Clock, S: Sink> JournaledControl<K, C, S> {
-    ghost use Rattle.std.specs.Prelude.{◌≡◌, ◌≤◌, ◌/◌, [], length};
-    ghost use Rattle.serving_commands.specs.{Journal.{IsWrittenDown, journal_line}, Journaled.{faults_of}};
+    ghost use Rattle.std.specs.Prelude.{[]};
 
     /// With 0 seconds it asks nothing itself.
     pub fn new(alloc: Global, socket: Option<K>, clock: C, journal: S, report_seconds: u32) -> Self
@@ -90,7 +89,8 @@ impl<K: Link, C: Clock, S: Sink> JournaledControl<K, C, S> {
 
     // The latest moment that the clock gave.
     fn pass_time(&mut self)
-        ensures { self.new.socket ≡ self.old.socket }
+        ensures socket { self.new.socket ≡ self.old.socket }
+        ensures journal { WritesNothing self.old self.new }
     {
         self.now = self.now.later(&self.clock.now());
     }
@@ -101,7 +101,8 @@ impl<K: Link, C: Clock, S: Sink> JournaledControl<K, C, S> {
 
     // Whether the socket is left alone: it was found empty in this millisecond.
     fn skips(&mut self) -> bool
-        ensures { self.new.socket ≡ self.old.socket }
+        ensures socket { self.new.socket ≡ self.old.socket }
+        ensures journal { WritesNothing self.old self.new }
     {
         if self.empty_at != Some(self.now) || self.skipped >= MOST_SKIPPED {
             self.skipped = 0;
@@ -118,6 +119,7 @@ impl<K: Link, C: Clock, S: Sink> JournaledControl<K, C, S> {
         ensures short { IsShortGot result }
         ensures open { result ≢ Got.Closed }
         ensures socket { self.new.socket ≡ self.old.socket }
+        ensures journal { WritesNothing self.old self.new }
     {
         self.due_ms = self.now.ms() + u64::from(self.seconds) * 1000;
         self.asked_at = self.now;
@@ -128,10 +130,7 @@ impl<K: Link, C: Clock, S: Sink> JournaledControl<K, C, S> {
     // Writes down what has changed since the last answer, which is one datagram: counts are never as long as two.
     fn write_down(&mut self, answer: &[u8])
         ensures socket { self.new.socket ≡ self.old.socket }
-        ensures journal { IsWrittenDown
-            (journal_line (self.old.asked_at / 1000) self.old.last answer.now)
-            (S.written self.old.journal) (S.written self.new.journal)
-            answer.now self.old.last self.new.last }
+        ensures journal { IsWrittenDown S.written S.faults answer.now self.old self.new }
     {
         let seconds = self.asked_at.ms() / 1000;
         let Ok(line) = journal_line(self.alloc, seconds, self.last.as_slice(), answer) else {
@@ -157,7 +156,14 @@ impl<K: Link, C: Clock, S: Sink> Link for JournaledControl<K, C, S> {
 
     ghost longest_wait = { λ _. 0 };
 
-    fn recv(&mut self, buf: &mut [u8], wait_ms: u32) -> Result<Got, Failed> {
+    fn recv(&mut self, buf: &mut [u8], wait_ms: u32) -> Result<Got, Failed>
+        requires room { 65536 ≤ length buf.old }
+        ensures short { IfOk result IsShortGot }
+        ensures buffer { length buf.new ≡ length buf.old }
+        ensures cause { HasCause (faults_of K.receive_faults self.old.socket) (faults_of K.receive_faults self.new.socket) result }
+        ensures apart { faults_of K.send_faults self.new.socket ≡ faults_of K.send_faults self.old.socket }
+        ensures journal { WritesNothing self.old self.new }
+    {
         self.pass_time();
         if self.is_due() {
             return Ok(self.ask(buf));
@@ -179,10 +185,9 @@ impl<K: Link, C: Clock, S: Sink> Link for JournaledControl<K, C, S> {
     fn send(&mut self, to: &Peer, bytes: &[u8]) -> Result<(), Failed>
         ensures cause { HasCause (faults_of K.send_faults self.old.socket) (faults_of K.send_faults self.new.socket) result }
         ensures apart { faults_of K.receive_faults self.new.socket ≡ faults_of K.receive_faults self.old.socket }
-        ensures journal { to.now ≡ own_peer → IsWrittenDown
-            (journal_line (self.old.asked_at / 1000) self.old.last bytes.now)
-            (S.written self.old.journal) (S.written self.new.journal)
-            bytes.now self.old.last self.new.last }
+        ensures journal { to.now ≡ own_peer
+            → IsWrittenDown S.written S.faults bytes.now self.old self.new }
+        ensures kept { to.now ≢ own_peer → WritesNothing self.old self.new }
     {
         if *to == JOURNAL {
             self.write_down(bytes);
