@@ -9,8 +9,10 @@
 # linux-headers-amd64 and the package of the same kernel, which it downloads (70 MB) and doesn't install.
 set -eu
 
+case ${1:-} in -*) sed -n '2,/^set/s/^# \{0,1\}//p' "$0"; exit ;; esac
 tools=$(cd "$(dirname "$0")" && pwd)
-amt=$(realpath "${1:-$tools/../crates/amt/out/amt}")
+amt=$(realpath -m "${1:-$tools/../crates/amt/out/amt}")
+[ -f "$amt" ] && [ -x "$amt" ] || { echo "linux-driver.sh: no binary of amt: $amt" >&2; exit 1; }
 headers=$(ls -d /usr/src/linux-headers-6.1.*-amd64 | sort -V | tail -n 1)
 version=${headers#/usr/src/linux-headers-}
 work=$(mktemp -d)
