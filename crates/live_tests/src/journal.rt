@@ -62,8 +62,26 @@ const TURNS: [Turn; 7] = [
     },
 ];
 
-const JOURNAL: &str =
-    "amt: 1 s: datagrams 2 rows 0 advertised 2\namt: 3 s: datagrams 4 updated 1 badmac 1\namt: 86400 s: rows 1\n";
+// The writes to a journal that fail, counted from 1, and what it has after the turns.
+type Row = (&'static str, &'static [u64], &'static str);
+
+const ROWS: [Row; 3] = [
+    (
+        "each line is taken",
+        &[],
+        "amt: 1 s: datagrams 2 rows 0 advertised 2\namt: 3 s: datagrams 4 updated 1 badmac 1\namt: 86400 s: rows 1\n",
+    ),
+    (
+        "the counts of a refused line are in the next one, though they are the same again",
+        &[1],
+        "amt: 2 s: datagrams 2 rows 0 advertised 2\namt: 3 s: datagrams 4 updated 1 badmac 1\namt: 86400 s: rows 1\n",
+    ),
+    (
+        "and with them what has changed since",
+        &[2],
+        "amt: 1 s: datagrams 2 rows 0 advertised 2\namt: 86400 s: datagrams 4 updated 1 rows 1 badmac 1\n",
+    ),
+];
 
 fn clock(alloc: Global, moments: &[u64]) -> Result<MemClock, AllocError> {
     let mut list = Vec::new(alloc);
@@ -92,19 +110,28 @@ fn is_taken(alloc: Global, control: &mut MemControl, turn: &Turn) -> bool {
     }
 }
 
-#[test]
-fn counts_that_changed_are_written_each_so_many_seconds(rt: HostRuntime) -> Result<(), AllocError> {
-    let alloc = rt.alloc();
+// Whether the turns pass, and the journal has then what the row says.
+fn is_written(alloc: Global, row: &Row) -> Result<bool, AllocError> {
     let mut moments = Vec::new(alloc);
     for turn in &TURNS {
         moments.push(turn.at)?;
     }
     let clock = clock(alloc, moments.as_slice())?;
-    let mut control = JournaledControl::new(alloc, None, clock, MemSink::new(alloc), 1);
+    let journal = MemSink::failing(alloc, Vec::from_slice(alloc, row.1)?);
+    let mut control = JournaledControl::new(alloc, None, clock, journal, 1);
     for turn in &TURNS {
-        assert!(rt; is_taken(alloc, &mut control, turn));
+        if !is_taken(alloc, &mut control, turn) {
+            return Ok(false);
+        }
     }
-    assert!(rt; control.journal().as_slice() == JOURNAL.as_bytes());
+    Ok(control.journal().as_slice() == row.2.as_bytes())
+}
+
+#[test]
+fn counts_that_changed_are_written_each_so_many_seconds(rt: HostRuntime) -> Result<(), AllocError> {
+    for row in &ROWS {
+        assert!(rt; is_written(rt.alloc(), row)?, "{}", row.0);
+    }
     Ok(())
 }
 
@@ -122,15 +149,30 @@ fn received(alloc: Global, control: &mut MemControl) -> Option<Got> {
     control.recv(buffer.as_mut_slice(), 0).ok()
 }
 
+// The moments of a clock, of which the last one stays, and how many looks find nothing. The first looks at the socket
+// and the others don't, since one that did would find it closed.
+const QUIETS: [(&str, &[u64], u32); 2] = [
+    ("until the next millisecond", &[10, 10, 10, 11], 3),
+    ("for 64 times at most", &[10], 65),
+];
+
+// Whether so many looks find nothing, and the next one finds the socket closed.
+fn is_quiet(alloc: Global, moments: &[u64], looks: u32) -> Result<bool, AllocError> {
+    let socket = MemLink::new(alloc, empty_once(alloc)?);
+    let clock = clock(alloc, moments)?;
+    let mut control = JournaledControl::new(alloc, Some(socket), clock, MemSink::new(alloc), 0);
+    for _ in 0..looks {
+        if received(alloc, &mut control) != Some(Got::Nothing) {
+            return Ok(false);
+        }
+    }
+    Ok(received(alloc, &mut control) == Some(Got::Closed))
+}
+
 #[test]
 fn an_empty_socket_is_left_alone_for_its_millisecond(rt: HostRuntime) -> Result<(), AllocError> {
-    let alloc = rt.alloc();
-    let socket = MemLink::new(alloc, empty_once(alloc)?);
-    let clock = clock(alloc, &[10, 10, 10, 11])?;
-    let mut control = JournaledControl::new(alloc, Some(socket), clock, MemSink::new(alloc), 0);
-    for _ in 0..3 {
-        assert!(rt; received(alloc, &mut control) == Some(Got::Nothing));
+    for (message, moments, looks) in &QUIETS {
+        assert!(rt; is_quiet(rt.alloc(), moments, *looks)?, "{message}");
     }
-    assert!(rt; received(alloc, &mut control) == Some(Got::Closed));
     Ok(())
 }
