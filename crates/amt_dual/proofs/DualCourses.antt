@@ -41,7 +41,7 @@ module _ (setup : DualSetup) (Fact : Course → Type 0)
   kept-along [] course fact = fact
   kept-along (event ∷ later) course fact = kept-along later (with_dual_pair_event pair course event) (kept-event event course fact)
 
-  kept-after : Fact (dual_pair_start pair) → (schedule : List DualPairEvent) → Fact (dual_course_of setup schedule)
+  pub kept-after : Fact (dual_pair_start pair) → (schedule : List DualPairEvent) → Fact (dual_course_of setup schedule)
   unfolding dual_course_of
   kept-after fact schedule = kept-along schedule (dual_pair_start pair) fact
 

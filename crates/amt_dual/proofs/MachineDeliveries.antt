@@ -79,12 +79,12 @@ module _ (setup : PairSetup) (course : Course) (send : OneSend) (place : ℕ) (a
       same_place (is_there send.to true) course.members k (suc place) d (once_there course.members apart send.to true own) below at.within is
       (ap (is_there send.to true) (item_is (suc place) d at.v6 at.within at.next) ∙ is_second)
 
-  left-since : is_ignored (answer_at at.v4 delivery).outcome ≡ true → is_left ≡ true
+  pub left-since : is_ignored (answer_at at.v4 delivery).outcome ≡ true → is_left ≡ true
   left-since ignored =
       list_any_at (ignores send.to delivery) course.members place at.v4 (omega (arith, at.within))
       (ap (ignores send.to delivery) at.here ∙ and_from (is_there send.to false at.v4) (is_ignored (answer_at at.v4 delivery).outcome) is_first ignored)
 
-  not_left-since : is_ignored (answer_at at.v4 delivery).outcome ≡ false → is_left ≡ false
+  pub not_left-since : is_ignored (answer_at at.v4 delivery).outcome ≡ false → is_left ≡ false
   not_left-since taken =
       list_any_none (ignores send.to delivery) course.members (λ k d below. false_from_ne_true (ignores send.to delivery (get_or course.members k d)) (λ is.
       let both = and_parts (is_there send.to false (get_or course.members k d)) (is_ignored (answer_at (get_or course.members k d) delivery).outcome) is in

@@ -1,3 +1,4 @@
+pub mod AsDuals
 pub mod Fault
 pub mod Gateways
 pub mod Reading

@@ -9,6 +9,7 @@
 mod call_line;
 mod gateway_line;
 mod given;
+mod laws;
 mod line;
 mod reading;
 mod replay;
@@ -16,6 +17,7 @@ mod script;
 mod statement;
 mod text;
 
+pub use laws::gateways_step_as_dual_ones;
 pub use reading::read_dual_script;
 pub use replay::run_dual_script;
 pub use script::{DualGateway, DualGateways, DualItem, DualItems, DualScript};
