@@ -2,9 +2,9 @@
 use Rattle.std.specs.{Prelude.{ℕ, Bool, nat_eq, ◌||◌, List, [], ◌∷◌, ◌++◌, drop, flat_map, codes, decimal, if◌then◌else◌}, List.{list_any, starts_with}, Str.{bytes_eq, Lines.{lines}}}
 use Rattle.script_lines.specs.Lines.{is_filled}
 
--- the line counts turns or questions, or it ends the answer
-abbrev pub tells_that_it_runs : List ℕ → Bool
-tells_that_it_runs line =
+-- the line counts turns or questions, or it ends the answer: it counts no event
+abbrev pub counts_no_event : List ℕ → Bool
+counts_no_event line =
     starts_with nat_eq line (codes "turns ") || starts_with nat_eq line (codes "published ")
     || starts_with nat_eq line (codes "controls ") || starts_with nat_eq line (codes "= moved ")
     || starts_with nat_eq line (codes "= drawn ") || starts_with nat_eq line (codes "= quiet ")
@@ -23,7 +23,7 @@ unmarked line = if starts_with nat_eq line (codes "= ") then drop 2 line else li
 -- what the journal has of a line, where the answer before had these lines
 abbrev pub told_of : List (List ℕ) → List ℕ → List ℕ
 told_of before line =
-    if tells_that_it_runs line || is_in_the_report line || list_any (bytes_eq line) before then [] else 32 ∷ unmarked line
+    if counts_no_event line || is_in_the_report line || list_any (bytes_eq line) before then [] else 32 ∷ unmarked line
 
 -- the counts that have changed, a space before each
 abbrev pub changes : List ℕ → List ℕ → List ℕ

@@ -1,6 +1,6 @@
 //! A line of the counts that have changed. It knows no device.
 ghost use Rattle.std.specs.{Prelude.{◌≡◌, ◌++◌, IfOk, OnOk}, List.{list_any}, Str.{bytes_eq, Lines.{lines}}};
-ghost use Rattle.serving_commands.specs.Journal.{changes, is_in_the_report, journal_line, tells_that_it_runs, told_of, unmarked};
+ghost use Rattle.serving_commands.specs.Journal.{changes, counts_no_event, is_in_the_report, journal_line, told_of, unmarked};
 
 use amt_values::{Bytes, append_numeral};
 use script_lines::next_line;
@@ -21,8 +21,8 @@ fn is_line_of(text: &[u8], line: &[u8]) -> bool
 }
 
 // Whether the line counts turns or questions, or ends the answer.
-fn tells_that_it_runs(line: &[u8]) -> bool
-    ensures { result ≡ tells_that_it_runs line.now }
+fn counts_no_event(line: &[u8]) -> bool
+    ensures { result ≡ counts_no_event line.now }
 {
     line.starts_with(b"turns ")
         || line.starts_with(b"published ")
@@ -56,7 +56,7 @@ fn unmarked(line: &[u8]) -> &[u8]
 fn append_count(text: &mut Bytes, before: &[u8], line: &[u8]) -> Result<(), AllocError>
     ensures { OnOk result (text.new ≡ text.old ++ told_of (lines before.now) line.now) }
 {
-    if tells_that_it_runs(line) || is_in_the_report(line) || is_line_of(before, line) {
+    if counts_no_event(line) || is_in_the_report(line) || is_line_of(before, line) {
         return Ok(());
     }
     text.append(b" ")?;

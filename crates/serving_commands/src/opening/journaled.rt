@@ -1,7 +1,7 @@
 //! A control by which an end asks itself too, and keeps a journal of the answers.
-ghost use Rattle.std.specs.Prelude.{◌≡◌, ◌≢◌, ◌≤◌, None, length, IfOk};
+ghost use Rattle.std.specs.Prelude.{◌≡◌, ◌≢◌, ◌<◌, ◌≤◌, ◌⊎◌, ◌+◌, codes, false, length, max, take, true, None, IfOk};
 ghost use Rattle.amt_ports.specs.{Arrivals.{IsShortGot}, Causes.{HasCause}};
-ghost use Rattle.serving_commands.specs.Journaled.{IsWrittenDown, WritesNothing, faults_of, own_peer};
+ghost use Rattle.serving_commands.specs.Journaled.{Asks, IsStill, IsWrittenDown, LeavesAlone, Looks, Passes, SendsOn, WritesNothing, is_due, number_of, own_peer};
 
 use crate::opening::journal::journal_line;
 use amt_ports::{Clock, Failed, Got, Link, Sink, write_all_own};
@@ -22,8 +22,8 @@ const MOST_SKIPPED: u32 = 64;
 const QUESTION: [u8; 6] = *b"counts";
 
 /// Lines of a control socket, if there is one, and each so many seconds a question of the end's own, `counts`: of its
-/// answer a line of the counts that have changed goes to the journal. When it asks is tested, not proved. The end waits
-/// until the journal has taken a line; what it refuses is told in the next one.
+/// answer a line of the counts that have changed goes to the journal. The end waits until the journal has taken a line;
+/// what it refuses is told in the next one.
 ///
 /// ```text
 ///   socket  --- lines --->  +---------+ --- lines, and `counts` when it is due --->  the end
@@ -40,7 +40,6 @@ pub struct JournaledControl<K, C, S> {
     clock: C,
     journal: S,
     seconds: u32,
-    due_ms: u64,
     now: Moment,
     asked_at: Moment,
     empty_at: Option<Moment>,
@@ -51,19 +50,35 @@ pub struct JournaledControl<K, C, S> {
 impl<K, C, S> Model for JournaledControl<K, C, S> {
     ghost use Rattle.serving_commands.specs.Journaled.{Journaled};
 
-    ghost Value = { Journaled K S };
+    ghost Value = { Journaled K C S };
 
-    ghost view = { λ control. record { socket = control.socket; journal = control.journal; asked_at = control.asked_at; last = control.last } };
+    ghost view = { λ control. record {
+      socket = control.socket;
+      clock = control.clock;
+      journal = control.journal;
+      seconds = control.seconds;
+      now = control.now;
+      asked_at = control.asked_at;
+      skipped = control.skipped;
+      last = control.last;
+    } };
 }
 
 impl<K: Link, C: Clock, S: Sink> JournaledControl<K, C, S> {
     ghost use Rattle.std.specs.Prelude.{[]};
 
-    /// With 0 seconds it asks nothing itself.
+    /// With 0 seconds it asks nothing itself. It begins at the moment 0 of its clock.
     pub fn new(alloc: Global, socket: Option<K>, clock: C, journal: S, report_seconds: u32) -> Self
-        ensures socket { result.socket ≡ socket }
-        ensures journal { result.journal ≡ journal }
-        ensures none { result.last ≡ [] }
+        ensures { result ≡ record {
+          socket = socket;
+          clock = clock;
+          journal = journal;
+          seconds = report_seconds;
+          now = 0;
+          asked_at = 0;
+          skipped = 0;
+          last = [];
+        } }
     {
         JournaledControl {
             alloc,
@@ -71,7 +86,6 @@ impl<K: Link, C: Clock, S: Sink> JournaledControl<K, C, S> {
             clock,
             journal,
             seconds: report_seconds,
-            due_ms: u64::from(report_seconds) * 1000,
             now: Moment::new(0).unwrap(),
             asked_at: Moment::new(0).unwrap(),
             empty_at: None,
@@ -89,20 +103,23 @@ impl<K: Link, C: Clock, S: Sink> JournaledControl<K, C, S> {
 
     // The latest moment that the clock gave.
     fn pass_time(&mut self)
-        ensures socket { self.new.socket ≡ self.old.socket }
-        ensures journal { WritesNothing self.old self.new }
+        ensures time { Passes C.given self.old self.new }
+        ensures rest { self.new ≡ record self.old { now = self.new.now; clock = self.new.clock } }
     {
         self.now = self.now.later(&self.clock.now());
     }
 
-    fn is_due(&self) -> bool {
-        self.seconds > 0 && self.due_ms <= self.now.ms()
+    fn is_due(&self) -> bool
+        ensures { result ≡ is_due self.entry.now self.entry.now.now }
+    {
+        self.seconds > 0 && self.asked_at.ms() + u64::from(self.seconds) * 1000 <= self.now.ms()
     }
 
     // Whether the socket is left alone: it was found empty in this millisecond.
     fn skips(&mut self) -> bool
-        ensures socket { self.new.socket ≡ self.old.socket }
-        ensures journal { WritesNothing self.old self.new }
+        ensures counted { result ≡ true → (self.old.skipped < 64)
+            × (self.new ≡ record self.old { skipped = self.old.skipped + 1 }) }
+        ensures none { result ≡ false → self.new ≡ record self.old { skipped = 0 } }
     {
         if self.empty_at != Some(self.now) || self.skipped >= MOST_SKIPPED {
             self.skipped = 0;
@@ -116,20 +133,20 @@ impl<K: Link, C: Clock, S: Sink> JournaledControl<K, C, S> {
     fn ask(&mut self, buf: &mut [u8]) -> Got
         requires { 65536 ≤ length buf.old }
         ensures buffer { length buf.new ≡ length buf.old }
-        ensures short { IsShortGot result }
-        ensures open { result ≢ Got.Closed }
-        ensures socket { self.new.socket ≡ self.old.socket }
-        ensures journal { WritesNothing self.old self.new }
+        ensures got { result ≡ Got.Datagram own_peer 6 }
+        ensures question { take 6 buf.new ≡ codes "counts" }
+        ensures asked { self.new ≡ record self.old { asked_at = self.old.now } }
     {
-        self.due_ms = self.now.ms() + u64::from(self.seconds) * 1000;
         self.asked_at = self.now;
         buf[..QUESTION.len()].copy_from_slice(&QUESTION);
         Got::Datagram(JOURNAL, QUESTION.len())
     }
 
-    // Writes down what has changed since the last answer, which is one datagram: counts are never as long as two.
+    // Writes down what has changed since the last answer, which is one datagram: a relay's counts have at most 897 octets
+    // and a gateway's 1,095, and a datagram of an answer has room for 1,376.
     fn write_down(&mut self, answer: &[u8])
         ensures socket { self.new.socket ≡ self.old.socket }
+        ensures still { IsStill self.old self.new }
         ensures journal { IsWrittenDown S.written S.faults answer.now self.old self.new }
     {
         let seconds = self.asked_at.ms() / 1000;
@@ -150,18 +167,25 @@ impl<K: Link, C: Clock, S: Sink> Link for JournaledControl<K, C, S> {
 
     ghost tried = { λ _. None };
 
-    ghost receive_faults = { λ control. faults_of K.receive_faults control.socket };
+    ghost receive_faults = { λ control. number_of K.receive_faults control.socket };
 
-    ghost send_faults = { λ control. faults_of K.send_faults control.socket };
+    ghost send_faults = { λ control. number_of K.send_faults control.socket };
 
-    ghost longest_wait = { λ _. 0 };
+    ghost longest_wait = { λ control. number_of K.longest_wait control.socket };
 
     fn recv(&mut self, buf: &mut [u8], wait_ms: u32) -> Result<Got, Failed>
         requires room { 65536 ≤ length buf.old }
         ensures short { IfOk result IsShortGot }
         ensures buffer { length buf.new ≡ length buf.old }
-        ensures cause { HasCause (faults_of K.receive_faults self.old.socket) (faults_of K.receive_faults self.new.socket) result }
-        ensures apart { faults_of K.send_faults self.new.socket ≡ faults_of K.send_faults self.old.socket }
+        ensures cause { HasCause (number_of K.receive_faults self.old.socket) (number_of K.receive_faults self.new.socket) result }
+        ensures apart { number_of K.send_faults self.new.socket ≡ number_of K.send_faults self.old.socket }
+        ensures waits { number_of K.longest_wait self.new.socket ≤ max (number_of K.longest_wait self.old.socket) wait_ms }
+        ensures time { Passes C.given self.old self.new }
+        ensures asks { is_due self.old self.new.now ≡ true → Asks result buf.new self.old self.new }
+        ensures looks { is_due self.old self.new.now ≡ false
+            → Looks K.coming K.tried result buf.new self.old self.new ⊎ LeavesAlone wait_ms result self.old self.new }
+        ensures asked_at { is_due self.old self.new.now ≡ false → self.new.asked_at ≡ self.old.asked_at }
+        ensures seconds { self.new.seconds ≡ self.old.seconds }
         ensures journal { WritesNothing self.old self.new }
     {
         self.pass_time();
@@ -183,11 +207,16 @@ impl<K: Link, C: Clock, S: Sink> Link for JournaledControl<K, C, S> {
     }
 
     fn send(&mut self, to: &Peer, bytes: &[u8]) -> Result<(), Failed>
-        ensures cause { HasCause (faults_of K.send_faults self.old.socket) (faults_of K.send_faults self.new.socket) result }
-        ensures apart { faults_of K.receive_faults self.new.socket ≡ faults_of K.receive_faults self.old.socket }
+        ensures cause { HasCause (number_of K.send_faults self.old.socket) (number_of K.send_faults self.new.socket) result }
+        ensures apart { number_of K.receive_faults self.new.socket ≡ number_of K.receive_faults self.old.socket }
+        ensures waits { number_of K.longest_wait self.new.socket ≡ number_of K.longest_wait self.old.socket }
         ensures journal { to.now ≡ own_peer
             → IsWrittenDown S.written S.faults bytes.now self.old self.new }
+        ensures unsent { to.now ≡ own_peer → self.new.socket ≡ self.old.socket }
         ensures kept { to.now ≢ own_peer → WritesNothing self.old self.new }
+        ensures sent { to.now ≢ own_peer
+            → SendsOn K.coming K.tried to.now bytes.now result self.old.socket self.new.socket }
+        ensures still { IsStill self.old self.new }
     {
         if *to == JOURNAL {
             self.write_down(bytes);
