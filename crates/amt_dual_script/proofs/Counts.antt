@@ -34,13 +34,10 @@ moment_counted count same setup course at =
     ∙ sym (sum_by-cons count first (gateway_parts (Passes at) course.members)))
 
 -- an absent datagram counts as nothing
-absent_ups : (number : ℕ) (parts : List DualPart) → sum_by ups_in (map part_named (or_absent number parts)) ≡ sum_by ups_in (map part_named parts)
-absent_ups number [] = refl
-absent_ups number (first ∷ more) = refl
-
-absent_downs : (number : ℕ) (parts : List DualPart) → sum_by downs_in (map part_named (or_absent number parts)) ≡ sum_by downs_in (map part_named parts)
-absent_downs number [] = refl
-absent_downs number (first ∷ more) = refl
+absent : (count : Part → ℕ) (number : ℕ) (parts : List DualPart) → sum_by count (map part_named (or_absent number [])) ≡ sum_by count []
+    → sum_by count (map part_named (or_absent number parts)) ≡ sum_by count (map part_named parts)
+absent count number [] none = none
+absent count number (first ∷ more) none = refl
 
 -- a delivery to the relay is that of a pair
 same_up : (setup : PairSetup) (course : Course) (number : ℕ) (found : Option Upward)
@@ -50,13 +47,10 @@ same_up setup course number (Some upward) = refl
 
 -- ---- the datagrams to the relay
 
-ups_of : Counts ups_in
-ups_of event member = refl
-
 ups_by : (event : GatewayEvent) (reaches : Member → Bool) (course : Course)
     → length course.up + sum_by ups_in (gateway_parts event (filter reaches course.members))
     ≡ length course.up + sum_by ups_in (map part_named (machine_parts event (filter reaches course.members)))
-ups_by event reaches course = ap (λ (n : ℕ). length course.up + n) (sym (machines_counted ups_in ups_of event (filter reaches course.members)))
+ups_by event reaches course = ap (λ (n : ℕ). length course.up + n) (sym (machines_counted ups_in (λ event member. refl) event (filter reaches course.members)))
 
 down_by : (setup : PairSetup) (course : Course) (number : ℕ) (found : Option OneSend)
     → length (down_taken setup found course).up ≡ length course.up + sum_by ups_in (map part_named (or_absent number (down_parts setup course found)))
@@ -65,12 +59,12 @@ down_by setup course number (Some send) =
     let event = delivery_down setup send in
     let reaches = takes_delivery setup course.members send in
     reached_counted event reaches course
-    ∙ (ups_by event reaches course ∙ ap (λ (n : ℕ). length course.up + n) (sym (absent_ups number (machine_parts event (filter reaches course.members)))))
+    ∙ (ups_by event reaches course ∙ ap (λ (n : ℕ). length course.up + n) (sym (absent ups_in number (machine_parts event (filter reaches course.members)) refl)))
 
 pub dual_ups_counted : (setup : PairSetup) (course : Course) (event : DualPairEvent)
     → length (with_dual_pair_event setup course event).up ≡ length course.up + sum_by ups_in (map part_named (dual_parts_of setup course event))
 dual_ups_counted setup course (events.Moment at) =
-    ups_counted setup course (pair_events.Moment at) ∙ ap (λ (n : ℕ). length course.up + n) (sym (moment_counted ups_in ups_of setup course at))
+    ups_counted setup course (pair_events.Moment at) ∙ ap (λ (n : ℕ). length course.up + n) (sym (moment_counted ups_in (λ event member. refl) setup course at))
 dual_ups_counted setup course (events.Rotate secret) = ups_counted setup course (pair_events.Rotate secret)
 dual_ups_counted setup course (events.Packet bytes) = ups_counted setup course (pair_events.Packet bytes)
 dual_ups_counted setup course (events.Socket name v6 event) = reached_counted event (is_called name v6) course ∙ ups_by event (is_called name v6) course
@@ -81,12 +75,9 @@ dual_ups_counted setup course (events.Down number) = down_by setup course number
 
 -- ---- those of the relay
 
-downs_of : Counts downs_in
-downs_of event member = refl
-
 -- machines send none
 none_down : (event : GatewayEvent) (members : List Member) → sum_by downs_in (map part_named (machine_parts event members)) ≡ 0
-none_down event members = machines_counted downs_in downs_of event members ∙ no_downs event members
+none_down event members = machines_counted downs_in (λ event member. refl) event members ∙ no_downs event members
 
 down_downs : (setup : PairSetup) (course : Course) (number : ℕ) (found : Option OneSend)
     → length (down_taken setup found course).down ≡ length course.down + sum_by downs_in (map part_named (or_absent number (down_parts setup course found)))
@@ -94,12 +85,12 @@ down_downs setup course number None = omega arith
 down_downs setup course number (Some send) =
     let event = delivery_down setup send in
     let reached = filter (takes_delivery setup course.members send) course.members in
-    omega (arith, absent_downs number (machine_parts event reached), none_down event reached)
+    omega (arith, absent downs_in number (machine_parts event reached) refl, none_down event reached)
 
 pub dual_downs_counted : (setup : PairSetup) (course : Course) (event : DualPairEvent)
     → length (with_dual_pair_event setup course event).down ≡ length course.down + sum_by downs_in (map part_named (dual_parts_of setup course event))
 dual_downs_counted setup course (events.Moment at) =
-    downs_counted setup course (pair_events.Moment at) ∙ ap (λ (n : ℕ). length course.down + n) (sym (moment_counted downs_in downs_of setup course at))
+    downs_counted setup course (pair_events.Moment at) ∙ ap (λ (n : ℕ). length course.down + n) (sym (moment_counted downs_in (λ event member. refl) setup course at))
 dual_downs_counted setup course (events.Rotate secret) = downs_counted setup course (pair_events.Rotate secret)
 dual_downs_counted setup course (events.Packet bytes) = downs_counted setup course (pair_events.Packet bytes)
 dual_downs_counted setup course (events.Socket name v6 event) = omega (arith, none_down event (filter (is_called name v6) course.members))

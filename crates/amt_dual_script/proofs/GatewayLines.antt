@@ -9,18 +9,13 @@ use Rattle.amt_dual_script.specs.{Fault.{FailsAsGateway, FailsToAdd, HasNoSource
 pub peer_repeated : (gateways : List DualGateway) (values rest : List (List ℕ)) (text : List ℕ) (peer : Peer) (given : Bool) → values ≡ text ∷ rest → IsPeerText peer text
     → given ≡ is_peer_given gateways peer → IsTrue given ↔ RepeatsPeer gateways values
 peer_repeated gateways values rest text peer given parts names is =
-    subst (λ (vs : List (List ℕ)). IsTrue given ↔ RepeatsPeer gateways vs) (sym parts) (
-      λ holds. (peer, names, sym is ∙ holds),
-      λ h. is ∙ (subst (λ (p : Peer). is_peer_given gateways p ≡ true) (IsPeerText-unique h.0 peer text h.1 names) h.2),
-    )
+    subst (λ (vs : List (List ℕ)). IsTrue given ↔ RepeatsPeer gateways vs) (sym parts)
+    (λ holds. (peer, names, sym is ∙ holds), λ h. is ∙ (subst (λ (p : Peer). is_peer_given gateways p ≡ true) (IsPeerText-unique h.0 peer text h.1 names) h.2))
 
 pub no_peer_repeated : (gateways : List DualGateway) (values rest : List (List ℕ)) (text : List ℕ) → values ≡ text ∷ rest → ((peer : Peer) → IsPeerText peer text → ⊥)
     → IsTrue false ↔ RepeatsPeer gateways values
 no_peer_repeated gateways values rest text parts none =
-    subst (λ (vs : List (List ℕ)). IsTrue false ↔ RepeatsPeer gateways vs) (sym parts) (
-      λ holds. cc holds,
-      λ h. absurd (none h.0 h.1),
-    )
+    subst (λ (vs : List (List ℕ)). IsTrue false ↔ RepeatsPeer gateways vs) (sym parts) (λ holds. cc holds, λ h. absurd (none h.0 h.1))
 
 abbrev AreTexts : List (List ℕ) → List ℕ → List ℕ → List ℕ → List ℕ → Type 0
 AreTexts values name peer source4 source6 = values ≡ name ∷ peer ∷ source4 ∷ source6 ∷ []
@@ -40,28 +35,13 @@ pub peer_first : (values : List (List ℕ)) (name peer source4 source6 : List �
     → IsIpText (V4 number4) source4 → IsIpText (V6 number6) source6 → ((p : Peer) → IsPeerText p peer → ⊥) → First (FailsAsGateway values) order_of_values reasons.Peer
 peer_first values name peer source4 source6 number4 number6 parts is_source4 is_source6 none =
     subst (λ (vs : List (List ℕ)). First (FailsAsGateway vs) order_of_values reasons.Peer) (sym parts)
-    (inr (
-      λ count. count refl,
-      inr (λ h. h, inr (λ h. h, inr (both_sources name peer source4 source6 number4 number6 is_source4 is_source6, inl (none, refl)))),
-    ))
+    (inr (λ count. count refl, inr (λ h. h, inr (λ h. h, inr (both_sources name peer source4 source6 number4 number6 is_source4 is_source6, inl (none, refl))))))
 
 pub name_first : (values : List (List ℕ)) (name peer source4 source6 : List ℕ) (number4 number6 : ℕ) (p : Peer) → AreTexts values name peer source4 source6
     → IsIpText (V4 number4) source4 → IsIpText (V6 number6) source6 → IsPeerText p peer → (IsGatewayName name → ⊥) → First (FailsAsGateway values) order_of_values reasons.Name
 name_first values name peer source4 source6 number4 number6 p parts is_source4 is_source6 is_peer none =
     subst (λ (vs : List (List ℕ)). First (FailsAsGateway vs) order_of_values reasons.Name) (sym parts)
-    (inr (
-      λ count. count refl,
-      inr (
-        λ h. h,
-        inr (
-          λ h. h,
-          inr (
-            both_sources name peer source4 source6 number4 number6 is_source4 is_source6,
-            inr (λ no_peer. no_peer p is_peer, inl (none, refl)),
-          ),
-        ),
-      ),
-    ))
+    (inr (λ count. count refl, inr (λ h. h, inr (λ h. h, inr (both_sources name peer source4 source6 number4 number6 is_source4 is_source6, inr (λ no_peer. no_peer p is_peer, inl (none, refl)))))))
 
 pub late_first : (gateways : List DualGateway) (items : List DualItem) (values : List (List ℕ)) → items ≢ [] → First (FailsToAdd gateways items values) order_of_reasons reasons.Late
 late_first gateways items values late = inr (λ h. h, inl (late, refl))

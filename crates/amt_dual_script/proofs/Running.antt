@@ -37,16 +37,9 @@ call_may_come settings past said name v6 event line few says =
     (given_later (gateways_in past) (gateways_in said) name says.given) in
     let found = machine_found settings (gateways_in (past ++ said)) name v6 given in
     let machine = machine_of settings v6 (host_of found.gateway) in
-    let fewer : length says.values ≤ 140100 = omega (arith, few, ap (λ (ts : List (List ℕ)). length ts) says.parts) in (
-      says.call,
-      (
-        machine,
-        found.among,
-        found.named,
-        refl,
-        event_of_one_family machine.settings (family_by v6) event refl (event_by_line (Some (family_by v6)) event says.values fewer says.says),
-      ),
-    )
+    let fewer : length says.values ≤ 140100 = omega (arith, few, ap (λ (ts : List (List ℕ)). length ts) says.parts) in
+    let is_event = event_of_one_family machine.settings (family_by v6) event refl (event_by_line (Some (family_by v6)) event says.values fewer says.says) in
+    (says.call, (machine, found.among, found.named, refl, is_event))
 
 event_may_come : (settings : Settings) (past said : List DualStatement) (event : DualPairEvent) (line : List (List ℕ)) → length line ≤ 140100
     → SaysEventAfter (gateways_in past) event line → DualMayCome (machines_by settings (gateways_in (past ++ said))) event

@@ -23,24 +23,16 @@ may_come pair start schedule event at may = subst (λ (hosts : List Host). DualM
 pub ups_after : (pair after : DualPair) (setup : PairSetup) (course : Course) (event : DualPairEvent) (parts : List DualPart) → StandsFor pair setup course
     → StandsFor after setup (with_dual_pair_event setup course event) → parts ≡ dual_parts_of setup course event
     → sent_up pair + sum_by ups_in (map part_named parts) ≡ sent_up after
-ups_after pair after setup course event parts at next are = omega (
-  arith,
-  up_at pair setup course at,
-  up_at after setup (with_dual_pair_event setup course event) next,
-  dual_ups_counted setup course event,
-  ap (λ (all : List DualPart). sum_by ups_in (map part_named all)) are,
-)
+ups_after pair after setup course event parts at next are =
+    let parts_are = ap (λ (all : List DualPart). sum_by ups_in (map part_named all)) are in
+    omega (arith, up_at pair setup course at, up_at after setup (with_dual_pair_event setup course event) next, dual_ups_counted setup course event, parts_are)
 
 pub downs_after : (pair after : DualPair) (setup : PairSetup) (course : Course) (event : DualPairEvent) (parts : List DualPart) → StandsFor pair setup course
     → StandsFor after setup (with_dual_pair_event setup course event) → parts ≡ dual_parts_of setup course event
     → sent_down pair + sum_by downs_in (map part_named parts) ≡ sent_down after
-downs_after pair after setup course event parts at next are = omega (
-  arith,
-  down_at pair setup course at,
-  down_at after setup (with_dual_pair_event setup course event) next,
-  dual_downs_counted setup course event,
-  ap (λ (all : List DualPart). sum_by downs_in (map part_named all)) are,
-)
+downs_after pair after setup course event parts at next are =
+    let parts_are = ap (λ (all : List DualPart). sum_by downs_in (map part_named all)) are in
+    omega (arith, down_at pair setup course at, down_at after setup (with_dual_pair_event setup course event) next, dual_downs_counted setup course event, parts_are)
 
 -- the text of an event's parts is the event's
 pub text_is : (pair : DualPair) (setup : DualSetup) (course : Course) (number up down : ℕ) (event : DualPairEvent) (parts : List DualPart)

@@ -5,7 +5,7 @@ use Rattle.socket_merge.specs.History.{same_name}
 use Rattle.relay_machine.specs.declared.sends.OneSend.{OneSend}
 use Rattle.gateway_machine.specs.declared.step.GatewayStep.{GatewayStep}
 use Rattle.amt_pair.specs.{Schedule.{Course, Member, is_endpoint, numbered}, Setup.{Host, PairSetup}}
-use Rattle.amt_dual.specs.{Answers.{DualCourse, DualSettings, dual_answer, is_machine}, Schedule.{arrival}, Twins.{are_of_one}}
+use Rattle.amt_dual.specs.{Answers.{DualCourse, DualSettings, dual_answer, is_machine, with_dual_event}, Schedule.{arrival}, Twins.{are_of_one}}
 use Rattle.amt_dual.specs.declared.{event.{DualEvent.{DualEvent, TheVariants.{Moment as Passes, Socket as Called}}, DualPairEvent.{DualPairEvent, TheVariants.{Down, Moment, Socket}}}, step.DualPart.{DualPart, TheVariants.{Gateway}}}
 
 -- the machines of one gateway, at the place and after it
@@ -33,6 +33,11 @@ event_for setup course host (Moment at) = Some (Passes at)
 event_for setup course host (Socket name v6 event) = if same_name name host.name then Some (Called v6 event) else None
 event_for setup course host (Down number) = delivery_for setup host (numbered course.down number)
 event_for setup course host event = None
+
+-- what it took after that
+abbrev pub taken_by_itself : DualSettings → DualCourse → Option DualEvent → DualCourse
+taken_by_itself settings course None = course
+taken_by_itself settings course (Some event) = with_dual_event settings course event
 
 -- a list of one, or of none
 abbrev pub listed : {X : Type 0} → Option X → List X

@@ -21,30 +21,26 @@ returns-then-not-is_name_given-clause-reason c = λ given items.
 
 pub returns-in_default-clause-reason : goal.returns-in_default-clause-reason
 returns-in_default-clause-reason c = λ given items.
-    let found : is_name_given c.args.gateways.now c.args.name.now ≡ true = sym c.is_name_given.ensures ∙ c.if-not-is_name_given.false in
-    named_judged given c.args.gateways.now items c.args.name.now (fields c.args.values.now) (Bad Count) c.requires.free found
+    named_judged given c.args.gateways.now items c.args.name.now (fields c.args.values.now) (Bad Count) c.requires.free (sym c.is_name_given.ensures ∙ c.if-not-is_name_given.false)
     (name_alone (fields c.args.values.now) c.in_default.ensures.parts)
 
 pub returns-in_default-read_family-clause-reason : goal.returns-in_default-read_family-clause-reason
 returns-in_default-read_family-clause-reason c = λ given items.
-    let found : is_name_given c.args.gateways.now c.args.name.now ≡ true = sym c.is_name_given.ensures ∙ c.if-not-is_name_given.false in
-    named_judged given c.args.gateways.now items c.args.name.now (fields c.args.values.now) (Bad Word) c.requires.free found
+    named_judged given c.args.gateways.now items c.args.name.now (fields c.args.values.now) (Bad Word) c.requires.free (sym c.is_name_given.ensures ∙ c.if-not-is_name_given.false)
     (unknown_family c.in-Some.family.now (fields c.in-Some.rest.now) (fields c.args.values.now) c.in-Some.ensures.parts c.in_default-read_family.ensures.none)
 
 pub returns-in_default-next_field-clause-reason : goal.returns-in_default-next_field-clause-reason
 returns-in_default-next_field-clause-reason c = λ given items.
-    let found : is_name_given c.args.gateways.now c.args.name.now ≡ true = sym c.is_name_given.ensures ∙ c.if-not-is_name_given.false in
     let family = c.in-Some-read_family.family in
-    named_judged given c.args.gateways.now items c.args.name.now (fields c.args.values.now) (Bad Count) c.requires.free found
+    named_judged given c.args.gateways.now items c.args.name.now (fields c.args.values.now) (Bad Count) c.requires.free (sym c.is_name_given.ensures ∙ c.if-not-is_name_given.false)
     (machine_judged family c.in-Some.family.now (fields c.in-Some.rest.now) (fields c.args.values.now) (Bad Count) c.in-Some.ensures.parts c.in-Some-read_family.ensures.found
     (family_alone family (fields c.in-Some.rest.now) c.in_default-next_field.ensures.parts))
 
 pub returns-in-Err-clause-reason : goal.returns-in-Err-clause-reason
 returns-in-Err-clause-reason c = λ given items.
-    let found : is_name_given c.args.gateways.now c.args.name.now ≡ true = sym c.is_name_given.ensures ∙ c.if-not-is_name_given.false in
     let family = c.in-Some-read_family.family in
     let values = fields c.in-Some.rest.now in
     let judged = call_judged family c.in-Some-next_field.word.now (fields c.in-Some-next_field.rest.now) values c.in-Err.error c.in-Some-next_field.ensures.parts
     c.in-Err.ensures.reason in
-    named_judged given c.args.gateways.now items c.args.name.now (fields c.args.values.now) c.in-Err.error c.requires.free found
+    named_judged given c.args.gateways.now items c.args.name.now (fields c.args.values.now) c.in-Err.error c.requires.free (sym c.is_name_given.ensures ∙ c.if-not-is_name_given.false)
     (machine_judged family c.in-Some.family.now values (fields c.args.values.now) c.in-Err.error c.in-Some.ensures.parts c.in-Some-read_family.ensures.found judged)
