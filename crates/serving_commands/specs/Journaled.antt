@@ -10,8 +10,8 @@ abbrev pub own_peer : Peer
 own_peer = record { ip = V6 281470681743360; port = 0 }
 
 -- its socket, if it has one, its clock and its journal; the seconds from one question to the next, 0 for none; the latest
--- moment of its clock, and when it last asked; how often in a row its socket wasn't looked at; the last answer that was
--- written down
+-- moment of its clock, and when it last asked; when its socket was found empty, and how often in a row it wasn't looked at;
+-- the last answer that was written down
 pub record Journaled (K C S : Type 0) : Type 0 where
   pub socket : Option K
   pub clock : C
@@ -19,6 +19,7 @@ pub record Journaled (K C S : Type 0) : Type 0 where
   pub seconds : ℕ
   pub now : ℕ
   pub asked_at : ℕ
+  pub empty_at : Option ℕ
   pub skipped : ℕ
   pub last : List ℕ
 
@@ -43,6 +44,13 @@ pub record Asks {K C S : Type 0} (result : Result Got Failed) (buffer : List ℕ
   pub question : take 6 buffer ≡ codes "counts"
   pub asked_at : after.asked_at ≡ after.now
   pub socket : after.socket ≡ before.socket
+  pub empty_at : after.empty_at ≡ before.empty_at
+  pub skipped : after.skipped ≡ before.skipped
+
+-- what a look says of the socket at this moment
+abbrev pub found_empty : ℕ → Got → Option ℕ
+found_empty now Nothing = Some now
+found_empty now got = None
 
 -- it looks into its socket, and hands on what that gave
 pub record Looks {K C S : Type 0} (coming : K → Option (List LinkAnswer)) (tried : K → Option (List TriedSend)) (result : Result Got Failed) (buffer : List ℕ)
@@ -52,15 +60,17 @@ pub record Looks {K C S : Type 0} (coming : K → Option (List LinkAnswer)) (tri
   pub before_is : before.socket ≡ Some here
   pub after_is : after.socket ≡ Some there
   pub answer : IfOk result (λ got. Answers ClosedLink (coming here) (coming there) (link_answer got buffer))
-  pub kept : OnErr result (coming there ≡ coming here)
+  pub empty_at : IfOk result (λ got. after.empty_at ≡ found_empty after.now got)
+  pub kept : OnErr result ((coming there ≡ coming here) × (after.empty_at ≡ before.empty_at))
   pub sends : tried there ≡ tried here
   pub skipped : after.skipped ≤ before.skipped
 
--- it doesn't look, 64 times in a row at most, and never where there is time to wait; or it has no socket
+-- it has no socket; or it doesn't look, at the moment at which it was found empty, where there is no time to wait, and 64
+-- times in a row at most
 abbrev pub LeavesAlone : {K C S : Type 0} (wait : ℕ) (result : Result Got Failed) (before after : Journaled K C S) → Type 0
 LeavesAlone wait result before after =
-    (result ≡ Ok Nothing) × (after.socket ≡ before.socket)
-    × ((before.socket ≡ None) ⊎ ((wait ≡ 0) × (before.skipped < 64) × (after.skipped ≡ before.skipped + 1)))
+    (result ≡ Ok Nothing) × (after.socket ≡ before.socket) × (after.empty_at ≡ before.empty_at)
+    × ((before.socket ≡ None) ⊎ ((wait ≡ 0) × (before.empty_at ≡ Some after.now) × (before.skipped < 64) × (after.skipped ≡ before.skipped + 1)))
 
 -- ---- sending
 
@@ -78,6 +88,7 @@ pub record IsStill {K C S : Type 0} (before after : Journaled K C S) : Type 0 wh
   pub seconds : after.seconds ≡ before.seconds
   pub now : after.now ≡ before.now
   pub asked_at : after.asked_at ≡ before.asked_at
+  pub empty_at : after.empty_at ≡ before.empty_at
   pub skipped : after.skipped ≡ before.skipped
 
 -- ---- writing down

@@ -1,5 +1,5 @@
 //! A control by which an end asks itself too, and keeps a journal of the answers.
-ghost use Rattle.std.specs.Prelude.{◌≡◌, ◌≢◌, ◌<◌, ◌≤◌, ◌⊎◌, ◌+◌, codes, false, length, max, take, true, None, IfOk};
+ghost use Rattle.std.specs.Prelude.{◌≡◌, ◌≢◌, ◌<◌, ◌≤◌, ◌⊎◌, ◌+◌, codes, false, length, max, take, true, None, Some, IfOk};
 ghost use Rattle.amt_ports.specs.{Arrivals.{IsShortGot}, Causes.{HasCause}};
 ghost use Rattle.serving_commands.specs.Journaled.{Asks, IsStill, IsWrittenDown, LeavesAlone, Looks, Passes, SendsOn, WritesNothing, is_due, number_of, own_peer};
 
@@ -59,6 +59,7 @@ impl<K, C, S> Model for JournaledControl<K, C, S> {
       seconds = control.seconds;
       now = control.now;
       asked_at = control.asked_at;
+      empty_at = control.empty_at;
       skipped = control.skipped;
       last = control.last;
     } };
@@ -76,6 +77,7 @@ impl<K: Link, C: Clock, S: Sink> JournaledControl<K, C, S> {
           seconds = report_seconds;
           now = 0;
           asked_at = 0;
+          empty_at = None;
           skipped = 0;
           last = [];
         } }
@@ -117,7 +119,7 @@ impl<K: Link, C: Clock, S: Sink> JournaledControl<K, C, S> {
 
     // Whether the socket is left alone: it was found empty in this millisecond.
     fn skips(&mut self) -> bool
-        ensures counted { result ≡ true → (self.old.skipped < 64)
+        ensures counted { result ≡ true → (self.old.empty_at ≡ Some self.old.now) × (self.old.skipped < 64)
             × (self.new ≡ record self.old { skipped = self.old.skipped + 1 }) }
         ensures none { result ≡ false → self.new ≡ record self.old { skipped = 0 } }
     {
